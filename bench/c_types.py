@@ -12,7 +12,7 @@ os.chdir(os.path.join(os.path.dirname(os.path.abspath(__file__)), ".."))
 
 # What C has for the types of the exports, and of the declarations in Rust.
 STRUCTS = {
-    "Handle": "maple_tree", "UserHandle": "maple_user", "OutRange": "maple_range", "OutWalk": "maple_walk",
+    "TreeHandle": "maple_tree", "UserHandle": "maple_user", "OutRange": "maple_range", "OutWalk": "maple_walk",
     "OutForm": "maple_form", "OutStats": "maple_stats", "CallWindow": "maple_read", "Outcome": "maple_done",
     "OutWindow": "maple_window", "OutCall": "maple_call",
 }
@@ -76,8 +76,8 @@ def layouts():
     for name in sorted(glob.glob("crates/mt_c/src/*.rt")):
         text = open(name, encoding="utf-8").read()
         for it in re.finditer(r"pub struct (\w+) \{([^}]*)\}", text):
-            if it[1] in ("Handle", "UserHandle"):
-                yield STRUCTS[it[1]], 16 if it[1] == "Handle" else 128, []
+            if it[1] in ("TreeHandle", "UserHandle"):
+                yield STRUCTS[it[1]], 16 if it[1] == "TreeHandle" else 128, []
             elif it[1] in STRUCTS:
                 found[it[1]] = re.findall(r"pub (\w+): (\w+)", it[2])
     # a struct may hold another one

@@ -1,10 +1,8 @@
 -- Several calls of a user under one lock of its tree.
-use Rattle.mt_c.proofs.Prelude.{◌≡◌, ◌∙◌, ℕ, Bool, true, false, List, Some, None, length, sym, ap, subst, IfErr, IfOk, Ok, Err, Tree, Pass, pass_in, IsBusyOf, User, UserHandle, refusal, common_of, known_to, paused, user_tree, TriedOnce}
+use Rattle.mt_c.proofs.Prelude.{◌≡◌, ◌∙◌, ℕ, Bool, true, false, List, Some, None, length, sym, ap, subst, IfErr, IfOk, Ok, Err, Tree, Pass, pass_in, IsBusyOf, User, UserHandle, refusal, common_of, known_to, paused, user_tree, TriedOnce, IsTriedEach, SharedTriedEach, TriedEach, TriesIf, are_meant, call_meant, each_status, told_call, when_each, LacksCalls, WereMade}
 use Rattle.mt_base.specs.Passes as known
 use Rattle.mt_rule.specs.Turns as turns
-use Rattle.mt_c.specs.Prelude.{LacksCalls, WereMade}
 use Rattle.mt_c.specs.declared.call_lists.OutCall.{OutCall}
-use Rattle.mt_c.specs.CallLists.{IsTriedEach, SharedTriedEach, TriedEach, TriesIf, are_meant, call_meant, each_status, told_call, when_each}
 use Rattle.mt_c.proofs.Sharing.{on_closed, on_open}
 
 -- what a pass that was paused came to

@@ -1,6 +1,8 @@
 -- A tree of one thread may go to another thread, and so may a user of one that threads share: nothing that they own names the thread.
 -- Source: this project's own.
-use Rattle.mt_c.proofs.Prelude.{IsSend, view_send, sendable, declared_send, crosses}
+use denote.RattleType.{RattleType}
+use Rattle.std.proofs.Crossing as heap
+use Rattle.mt_c.proofs.Prelude.{IsSend, view_send, sendable, declared_send, crosses, raw, Keyless, lone, Ptr, Option, Some, None, lies, kept_owns}
 use Rattle.atomic_table.proofs.badge.Badge.TheSendSync as Badge
 use Rattle.mt_base.proofs.kinds.Kind.TheSendSync as Kind
 use Rattle.mt_engine.proofs.engine.Engine.TheSendSync as Engine
@@ -50,3 +52,8 @@ receipts_sent = declared_send receipts.the_type (search (sendable, crosses, Lock
 
 pub user_sent : IsSend user.the_row
 user_sent = declared_send user.the_type (search (sendable, crosses, Common.the_send, Common.the_sync, Walker.the_send, Badge.the_send, receipts_sent) depth 20)
+
+-- what C keeps of either is a box, and names no thread
+pub kept_keyless : (R : RattleType) → IsSend R → (p : Ptr) (v : Option R.Denot) → Keyless (kept_owns R p v)
+kept_keyless R sent p None = tt
+kept_keyless R sent p (Some x) = (lies R sent p x, heap.frees.frees (record { memory = record { seal = tt } }) (raw (lone R.mir)) p)

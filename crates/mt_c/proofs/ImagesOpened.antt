@@ -38,3 +38,5 @@ module _ (before after : Option OwnTree) (out out' : List ℕ) (used status : �
 
     pub imaged_none : status ≡ 12 → out' ≡ out → used ≡ 0 → Imaged before after out out' used status
     imaged_none number same none = tells (inr (inr (number, same, none)))
+
+pub ruleset imaged_so = (imaged_closed, imaged_put, imaged_short, imaged_none)

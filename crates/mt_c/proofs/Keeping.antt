@@ -1,6 +1,5 @@
 -- By the count of what is kept, whether something is.
-use Rattle.mt_c.proofs.Prelude.{◌≡◌, ◌≢◌, ◌∙◌, ℕ, Bool, true≢false, refl, sym, ap, arith, Option, Some, None, if◌then◌else◌, eqb-true, ◌==◌, open_count, is_kept, refusal, unopened, IsOpenHandle}
-use Rattle.std.proofs.lemmas.Bool.{eq-eqb, ne_eqb}
+use Rattle.mt_c.proofs.Prelude.{◌≡◌, ◌≢◌, ◌∙◌, ℕ, Bool, true≢false, refl, sym, ap, arith, Option, Some, None, if◌then◌else◌, eqb-true, ◌==◌, open_count, is_kept, refusal, unopened, IsOpenHandle, eq-eqb, ne_eqb}
 
 pub none_kept : {A : Type 0} (v : Option A) → open_count v ≡ 0 → v ≡ None
 none_kept None none = refl

@@ -1,50 +1,46 @@
 -- What a user finds under the lock of its tree, and what C is told of it.
-use Rattle.mt_c.proofs.Prelude.{◌≡◌, ◌∙◌, ℕ, ◌<◌, ◌≤◌, ◌++◌, List, Option, Some, None, drop, length, refl, ap, subst, inl, inr, IfErr, IfOk, Result, Ok, Err, Form, Busy, Look, Stats, Tree, IsFormBehind, IsImagedBehind, IsOldest, IsStatsOf, Pass, opened, pass_in, IsBusyOf, OutForm, OutStats, User, UserHandle, no_form, refusal, Found, HasFound, IsFoundIn, MadeImage, PutsBytes, SharedChecked, SharedImaged, SharedOldest, SharedStats, TellsBytes, TellsCalls, TellsForm, TellsStats, when_found, no_stats, common_of, known_to, user_tree, IsPaused}
+use Rattle.mt_c.proofs.Prelude.{◌≡◌, ◌∙◌, ℕ, ◌<◌, ◌≤◌, ◌++◌, List, Option, Some, None, drop, length, refl, ap, subst, inl, inr, IfErr, IfOk, Result, Ok, Err, Form, Busy, Look, Stats, Tree, IsFormBehind, IsImagedBehind, IsOldest, IsStatsOf, Pass, opened, pass_in, IsBusyOf, OutForm, OutStats, User, UserHandle, no_form, refusal, FoundOrTaken, HasFoundOrTaken, IsFoundIn, MadeImage, PutsBytes, SharedChecked, SharedImaged, SharedOldest, SharedStats, TellsBytes, TellsCalls, TellsForm, TellsStats, when_found, no_stats, common_of, known_to, user_tree, IsPaused, rested, TriedShut, WasFound}
 use Rattle.mt_base.specs.Passes as known
-use Rattle.mt_rule.specs.Turns as turns
-use Rattle.mt_c.specs.Users.{rested}
-use Rattle.mt_c.specs.Walkers.{TriedShut}
 use Rattle.mt_c.proofs.Sharing.{on_closed, on_open}
 
-found_in : {A : Type 0} (is : Tree → known.Pass → A × Look → Type 0) (t : Tree) (p : known.Pass) (a b : Pass) (found : Found A) → pass_in a ≡ p → IfOk found (λ _. known.Saw (opened t) (pass_in a) (pass_in b)) → IfOk found (is t (pass_in b)) → IfErr found (IsBusyOf t)
-    → IfErr found (λ _. b ≡ turns.tried a) → IsFoundIn is t p found (pass_in b)
-found_in is t p a b (Ok x) was saw so busy kept = (subst (λ (y : known.Pass). known.Saw (opened t) y (pass_in b)) was saw, so)
-found_in is t p a b (Err why) was saw so busy kept = (busy, ap pass_in kept ∙ was)
+found_in : {A : Type 0} (is : Tree → known.Pass → A × Look → Type 0) (t : Tree) (p : known.Pass) (a b : Pass) (found : FoundOrTaken A) → pass_in a ≡ p → WasFound is t a found b → IsFoundIn is t p found (pass_in b)
+found_in is t p a b (Ok x) was told = (subst (λ (y : known.Pass). known.Saw (opened t) y (pass_in b)) was told.saw, told.said)
+found_in is t p a b (Err why) was told = (told.busy, ap pass_in told.kept ∙ was)
 
 -- one that had no section open has none then
-found_shut : {A : Type 0} (is : Tree → known.Pass → A × Look → Type 0) (t : Tree) (q p : known.Pass) (found : Found A) → IsFoundIn is t p found q → p.standing ≡ None → q.standing ≡ None
+found_shut : {A : Type 0} (is : Tree → known.Pass → A × Look → Type 0) (t : Tree) (q p : known.Pass) (found : FoundOrTaken A) → IsFoundIn is t p found q → p.standing ≡ None → q.standing ≡ None
 found_shut is t q p (Ok x) said off = ap (λ (y : known.Pass). y.standing) said.0.pass ∙ off
 found_shut is t q p (Err why) said off = ap (λ (y : known.Pass). y.standing) said.1 ∙ off
 
 -- ---- what a pass found
 
 module _ (t : Tree) (p : known.Pass) (a b : Pass) (was : pass_in a ≡ p) where
-  pub form_found : (found : Found Form) → IfOk found (λ _. known.Saw (opened t) (pass_in a) (pass_in b)) → IfOk found (IsFormBehind t (pass_in b)) → IfErr found (IsBusyOf t) → IfErr found (λ _. b ≡ turns.tried a) → IsFoundIn IsFormBehind t p found (pass_in b)
-  form_found found saw so busy kept = found_in IsFormBehind t p a b found was saw so busy kept
+  pub form_found : (found : FoundOrTaken Form) → WasFound IsFormBehind t a found b → IsFoundIn IsFormBehind t p found (pass_in b)
+  form_found found told = found_in IsFormBehind t p a b found was told
 
-  pub stats_found : (found : Found Stats) → IfOk found (λ _. known.Saw (opened t) (pass_in a) (pass_in b)) → IfOk found (IsStatsOf t (pass_in b)) → IfErr found (IsBusyOf t) → IfErr found (λ _. b ≡ turns.tried a) → IsFoundIn IsStatsOf t p found (pass_in b)
-  stats_found found saw so busy kept = found_in IsStatsOf t p a b found was saw so busy kept
+  pub stats_found : (found : FoundOrTaken Stats) → WasFound IsStatsOf t a found b → IsFoundIn IsStatsOf t p found (pass_in b)
+  stats_found found told = found_in IsStatsOf t p a b found was told
 
-  pub calls_found : (found : Found ℕ) → IfOk found (λ _. known.Saw (opened t) (pass_in a) (pass_in b)) → IfOk found (IsOldest t (pass_in b)) → IfErr found (IsBusyOf t) → IfErr found (λ _. b ≡ turns.tried a) → IsFoundIn IsOldest t p found (pass_in b)
-  calls_found found saw so busy kept = found_in IsOldest t p a b found was saw so busy kept
+  pub calls_found : (found : FoundOrTaken ℕ) → WasFound IsOldest t a found b → IsFoundIn IsOldest t p found (pass_in b)
+  calls_found found told = found_in IsOldest t p a b found was told
 
-  pub image_found : (found : Found MadeImage) → IfOk found (λ _. known.Saw (opened t) (pass_in a) (pass_in b)) → IfOk found (IsImagedBehind t (pass_in b)) → IfErr found (IsBusyOf t) → IfErr found (λ _. b ≡ turns.tried a) → IsFoundIn IsImagedBehind t p found (pass_in b)
-  image_found found saw so busy kept = found_in IsImagedBehind t p a b found was saw so busy kept
+  pub image_found : (found : FoundOrTaken MadeImage) → WasFound IsImagedBehind t a found b → IsFoundIn IsImagedBehind t p found (pass_in b)
+  image_found found told = found_in IsImagedBehind t p a b found was told
 
 -- ---- what a user was told
 
 module _ (u v : User) (status : ℕ) (once : TriedShut u.walker v.walker) (off : IsPaused v.walker) (chair : v.chair ≡ u.chair) where
-  pub form_told : (found : Found Form) (out : OutForm) → IsFoundIn IsFormBehind (user_tree u) (rested u) found (known_to v) → v.receipts ≡ when_found found u.receipts → TellsForm status out found → HasFound IsFormBehind (TellsForm status out) u v
+  pub form_told : (found : FoundOrTaken Form) (out : OutForm) → IsFoundIn IsFormBehind (user_tree u) (rested u) found (known_to v) → v.receipts ≡ when_found found u.receipts → TellsForm status out found → HasFoundOrTaken IsFormBehind (TellsForm status out) u v
   form_told found out said kept told = (found, said, once, (off, found_shut IsFormBehind (user_tree u) (known_to v) (rested u) found said refl), chair, kept, told)
 
-  pub stats_told : (found : Found Stats) (out : OutStats) → IsFoundIn IsStatsOf (user_tree u) (rested u) found (known_to v) → v.receipts ≡ when_found found u.receipts → TellsStats status out found → HasFound IsStatsOf (TellsStats status out) u v
+  pub stats_told : (found : FoundOrTaken Stats) (out : OutStats) → IsFoundIn IsStatsOf (user_tree u) (rested u) found (known_to v) → v.receipts ≡ when_found found u.receipts → TellsStats status out found → HasFoundOrTaken IsStatsOf (TellsStats status out) u v
   stats_told found out said kept told = (found, said, once, (off, found_shut IsStatsOf (user_tree u) (known_to v) (rested u) found said refl), chair, kept, told)
 
-  pub calls_told : (found : Found ℕ) (out : ℕ) → IsFoundIn IsOldest (user_tree u) (rested u) found (known_to v) → v.receipts ≡ when_found found u.receipts → TellsCalls status out found → HasFound IsOldest (TellsCalls status out) u v
+  pub calls_told : (found : FoundOrTaken ℕ) (out : ℕ) → IsFoundIn IsOldest (user_tree u) (rested u) found (known_to v) → v.receipts ≡ when_found found u.receipts → TellsCalls status out found → HasFoundOrTaken IsOldest (TellsCalls status out) u v
   calls_told found out said kept told = (found, said, once, (off, found_shut IsOldest (user_tree u) (known_to v) (rested u) found said refl), chair, kept, told)
 
-  pub image_told : (found : Found MadeImage) (out out' : List ℕ) (used : ℕ) → IsFoundIn IsImagedBehind (user_tree u) (rested u) found (known_to v) → v.receipts ≡ when_found found u.receipts → TellsBytes out out' used status found
-      → HasFound IsImagedBehind (TellsBytes out out' used status) u v
+  pub image_told : (found : FoundOrTaken MadeImage) (out out' : List ℕ) (used : ℕ) → IsFoundIn IsImagedBehind (user_tree u) (rested u) found (known_to v) → v.receipts ≡ when_found found u.receipts → TellsBytes out out' used status found
+      → HasFoundOrTaken IsImagedBehind (TellsBytes out out' used status) u v
   image_told found out out' used said kept told = (found, said, once, (off, found_shut IsImagedBehind (user_tree u) (known_to v) (rested u) found said refl), chair, kept, told)
 
 -- ---- images
@@ -59,16 +55,16 @@ bytes_short out out' bytes used status number count short same = (count, inr (nu
 
 module _ (before after : UserHandle) (status : ℕ) where
   module _ (u v : User) (was : before.kept.value ≡ Some u) (is : after.kept.value ≡ Some v) (common : common_of v ≡ common_of u) where
-    pub checked_open : (out : OutForm) → HasFound IsFormBehind (TellsForm status out) u v → SharedChecked before after status out
+    pub checked_open : (out : OutForm) → HasFoundOrTaken IsFormBehind (TellsForm status out) u v → SharedChecked before after status out
     checked_open out has = on_open before after u v status _ _ was is common has
 
-    pub stats_open : (out : OutStats) → HasFound IsStatsOf (TellsStats status out) u v → SharedStats before after status out
+    pub stats_open : (out : OutStats) → HasFoundOrTaken IsStatsOf (TellsStats status out) u v → SharedStats before after status out
     stats_open out has = on_open before after u v status _ _ was is common has
 
-    pub oldest_open : (out : ℕ) → HasFound IsOldest (TellsCalls status out) u v → SharedOldest before after status out
+    pub oldest_open : (out : ℕ) → HasFoundOrTaken IsOldest (TellsCalls status out) u v → SharedOldest before after status out
     oldest_open out has = on_open before after u v status _ _ was is common has
 
-    pub imaged_open : (out out' : List ℕ) (used : ℕ) → HasFound IsImagedBehind (TellsBytes out out' used status) u v → SharedImaged out out' used before after status
+    pub imaged_open : (out out' : List ℕ) (used : ℕ) → HasFoundOrTaken IsImagedBehind (TellsBytes out out' used status) u v → SharedImaged out out' used before after status
     imaged_open out out' used has = on_open before after u v status _ _ was is common has
 
   module _ (was : before.kept.value ≡ None) (is : after ≡ before) (number : status ≡ refusal after.state) where

@@ -1,8 +1,5 @@
 -- Many look-ups and many steps of a walk that C keeps.
-use Rattle.mt_c.proofs.Prelude.{◌≡◌, ◌∙◌, ℕ, Option, Some, None, refl, sym, ap, subst, greatest, map_by, Parts, RangeWalk, OwnTree, IsAsked, walk_index, walk_start, last_index_of, walk_from, OutRange, OutWalk}
-use Rattle.std.specs.Prelude.{List, length, map, take}
-use Rattle.mt_engine.specs.Batches.{entries_at, put_first, steps_from}
-use Rattle.mt_c.specs.Calls.{many_status, range_out}
+use Rattle.mt_c.proofs.Prelude.{◌≡◌, ◌∙◌, ℕ, Option, Some, None, refl, sym, ap, subst, greatest, map_by, Parts, RangeWalk, OwnTree, IsAsked, walk_index, walk_start, last_index_of, walk_from, OutRange, OutWalk, many_status, range_out, PutSteps, entries_at, put_first, steps_by, List, length, take}
 use Rattle.mt_c.specs.Many.{HasSteppedMany, LoadedMany, SteppedMany}
 
 pub loaded_open : (indexes : List ℕ) (before after : Option OwnTree) (t t' : OwnTree) (status : ℕ) (out out' : List ℕ) → before ≡ Some t → after ≡ Some t' → IsAsked t.engine t'.engine → t'.place ≡ t.place → status ≡ 0
@@ -16,27 +13,19 @@ loaded_closed indexes before after status out out' was is number same =
 
 -- what the engine tells of as many steps of a tree as there are places
 abbrev StepsMany : OwnTree → Parts → RangeWalk → List OutRange → List OutRange → ℕ → Type 0
-StepsMany m e' place' out out' count =
-    IsAsked m.engine e' × (out' ≡ put_first (map range_out (steps_from (map_by m.engine.sheet.tree) (last_index_of m) (length out) m.place.next).found) out)
-    × (count ≡ length (steps_from (map_by m.engine.sheet.tree) (last_index_of m) (length out) m.place.next).found)
-    × (place'.next ≡ (steps_from (map_by m.engine.sheet.tree) (last_index_of m) (length out) m.place.next).next)
+StepsMany m e' place' out out' count = IsAsked m.engine e' × PutSteps range_out (steps_by m.engine.sheet.tree (length out) m.place.next) out out' count place'.next
 
 -- steps of a tree that stands at the index then, whose fields stand for `inside`
 pub stepped_many : (inside m t : OwnTree) (e' : Parts) (place' : RangeWalk) (index : Option ℕ) (out out' : List OutRange) (count : ℕ) → inside ≡ m → m.engine ≡ t.engine → m.place.next ≡ walk_start (last_index_of t) index
-    → IsAsked inside.engine e' → out' ≡ put_first (map range_out (steps_from (map_by inside.engine.sheet.tree) (greatest inside.engine.sheet.tree.table.width) (length out) inside.place.next).found) out
-    → count ≡ length (steps_from (map_by inside.engine.sheet.tree) (greatest inside.engine.sheet.tree.table.width) (length out) inside.place.next).found
-    → place'.next ≡ (steps_from (map_by inside.engine.sheet.tree) (greatest inside.engine.sheet.tree.table.width) (length out) inside.place.next).next
+    → IsAsked inside.engine e' → PutSteps range_out (steps_by inside.engine.sheet.tree (length out) inside.place.next) out out' count place'.next
     → HasSteppedMany t (record { engine = e'; place = place' }) index out out' count
-stepped_many inside m t e' place' index out out' count is same start asked put many next =
-    let of_m : StepsMany m e' place' out out' count = subst (λ (x : OwnTree). StepsMany x e' place' out out' count) is (asked, put, many, next) in
+stepped_many inside m t e' place' index out out' count is same start asked put =
+    let of_m : StepsMany m e' place' out out' count = subst (λ (x : OwnTree). StepsMany x e' place' out out' count) is (asked, put) in
     let of_t : StepsMany (record { engine = t.engine; place = m.place }) e' place' out out' count =
     subst (λ (e : Parts). StepsMany (record { engine = e; place = m.place }) e' place' out out' count) same of_m in
-    let steps = λ (from : Option ℕ). steps_from (map_by t.engine.sheet.tree) (last_index_of t) (length out) from in
     record {
       rest = of_t.0;
-      put = of_t.1 ∙ ap (λ (o : Option ℕ). put_first (map range_out (steps o).found) out) start;
-      many = of_t.2 ∙ ap (λ (o : Option ℕ). length (steps o).found) start;
-      place = of_t.3 ∙ ap (λ (o : Option ℕ). (steps o).next) start;
+      put = subst (λ (o : Option ℕ). PutSteps range_out (steps_by t.engine.sheet.tree (length out) o) out out' count place'.next) start of_t.1;
     }
 
 pub stepped_open : (walk walk' : OutWalk) (before after : Option OwnTree) (t t' : OwnTree) (index behind : Option ℕ) (status count : ℕ) (out out' : List OutRange) → before ≡ Some t → after ≡ Some t' → index ≡ walk_index walk

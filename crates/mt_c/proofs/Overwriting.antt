@@ -1,11 +1,7 @@
 -- Stores that tell all ranges that they meet: what C gets of them.
-use Rattle.mt_c.proofs.Prelude.{◌≡◌, ◌∙◌, ℕ, List, Option, Some, None, Ok, Err, IfErr, IfOk, refl, sym, ap, subst, map_by, Reply, Parts, OwnTree, IsAsked, OutRange, Tree, Pass, pass_in, IsBusyOf, WasMade, User, UserHandle, Outcome, refusal, no_outcome, outcome_of, tried_status, when_tried, common_of, known_to, paused, user_tree, TriedOnce}
+use Rattle.mt_c.proofs.Prelude.{◌≡◌, ◌∙◌, ℕ, List, Option, Some, None, Ok, Err, IfErr, IfOk, refl, sym, ap, subst, map_by, Reply, Parts, OwnTree, IsAsked, OutRange, Tree, Pass, pass_in, IsBusyOf, WasMade, User, UserHandle, Outcome, refusal, no_outcome, outcome_of, tried_status, when_tried, common_of, known_to, paused, user_tree, TriedOnce, Store, MadeOrSpent, range_out, status_of, word_in_c, HasTriedOver, IsTriedOver, SharedTriedOver, StoredOver, StoresOver, TriedOver, met_count, tried_alone, TellsMet, map_met, ranges_met}
 use Rattle.mt_base.specs.Passes as known
-use Rattle.mt_base.specs.declared.calls.Call.TheVariants.{Store}
 use Rattle.mt_rule.specs.Turns as turns
-use Rattle.mt_tree.specs.Overwrites.{TellsMet, map_met, ranges_met}
-use Rattle.mt_c.specs.Calls.{MadeOrSpent, range_out, status_of, word_in_c}
-use Rattle.mt_c.specs.Overwrites.{HasTriedOver, IsTriedOver, SharedTriedOver, StoredOver, StoresOver, TriedOver, met_count, tried_alone}
 use Rattle.mt_c.proofs.Sharing.{on_closed, on_open}
 
 -- ---- a tree of one's own

@@ -1,12 +1,5 @@
 -- How the number of a tree's ranges is kept.
-use Rattle.mt_c.proofs.Prelude.{◌≡◌, ◌∙◌, ℕ, ◌+◌, true, false, Option, IfSome, length, sym, ap, subst, inl, inr, Kind, Call, Reply, Book, IsAsked, IsLawfulOf, OnlyReads, Parts, RangeWalk, Rooted, Sheet, WalksFrom, map_by}
-use Rattle.mt_base.specs.Call.{acted}
-use Rattle.mt_engine.proofs.Moments.{tree_if_lawful}
-use Rattle.mt_engine.proofs.Slots.{tree_map}
-use Rattle.mt_engine.specs.Engine.{IsApplied, is_refusal}
-use Rattle.mt_tree.specs.Reserve.{IsCountAfter}
-use Rattle.mt_tree.proofs.RangeCounts.{made_counts}
-use Rattle.mt_c.specs.Own.{IsOwnTree}
+use Rattle.mt_c.proofs.Prelude.{◌≡◌, ◌∙◌, ℕ, ◌+◌, true, false, Option, IfSome, length, sym, ap, subst, inl, inr, Kind, Call, Reply, Book, IsAsked, IsLawfulOf, OnlyReads, Parts, RangeWalk, Rooted, Sheet, WalksFrom, map_by, acted, IsOwnTree, tree_if_lawful, tree_map, IsApplied, is_refusal, made_counts, IsCountAfter}
 use Rattle.mt_c.specs.declared.own_tree.OwnTree.TheInside.{Inside}
 use Rattle.mt_c.proofs.Walking.{alone_if_asked, alone_if_ended, ended_if_asked, walks_if_asked}
 

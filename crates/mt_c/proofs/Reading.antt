@@ -1,4 +1,5 @@
 -- An engine that was taken apart, whose rows were read, and that was put together again.
+use Rattle.mt_tree.proofs.Forms.{high_as, idle_as, lawful_as, live_as}
 use Rattle.mt_c.proofs.Prelude.{◌≡◌, ◌∙◌, ℕ, Option, Some, sym, ap, subst, Result, Ok, Err, IsOk, Kind, Fault, Form, checked, form_of, form_by, Book, Root, IsLawfulOf, tree_as, with_published, OnlyReads, Rooted, Sheet, Parts, reads_through, OutForm, IsAsked, Checked, out_form, OwnTree}
 
 pub asked_as : (e e' : Parts) (s s' : Sheet) (book : Book) (kind : Kind) → s ≡ e.sheet → book ≡ e.book → kind ≡ e.kind → OnlyReads s s' → e'.sheet ≡ s' → e'.book ≡ book → e'.kind ≡ kind → IsAsked e e'
@@ -7,6 +8,9 @@ asked_as e e' s s' book kind taken booked same reads put put_book put_kind = rec
   book = put_book ∙ booked;
   kind = put_kind ∙ same;
 }
+
+-- what is to be said of the rows between, and of the engine after
+pub ruleset put_together = (lawful_as, idle_as, high_as, live_as, asked_as)
 
 -- what a check of lawful words answers
 module _ (s read : Sheet) (kind : Kind) (root : ℕ) (same : read.tree ≡ s.tree) (root_is : root ≡ s.tree.root) where

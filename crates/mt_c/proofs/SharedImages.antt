@@ -44,6 +44,8 @@ module _ (code rows passes calls : ℕ) (m : List Range) where
           subst (λ (w : BuildWhy). LacksFirstOfRanges code rows passes calls m w.status w.at) (sym is)
           (inr (kind, coded, refl, subst (λ (n : ℕ). LacksMany (shape_for kind rows passes calls) n status) many (many_lack (shape_for kind rows passes calls) s.tree status built.lawful lacks)))
 
+pub ruleset first_of_ranges = (no_kind_ranges, no_ranges, of_ranges, ranges_lack)
+
 -- ---- what C keeps
 
 module _ (is : User → Type 0) (lacks : ℕ → Type 0) (before after : UserHandle) (status : ℕ) where

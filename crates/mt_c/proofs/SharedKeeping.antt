@@ -1,9 +1,8 @@
 -- Calls of a user that keep the reserve of a shared tree: what C gets of them.
-use Rattle.mt_c.proofs.Prelude.{◌≡◌, ◌∙◌, ℕ, Some, None, Ok, Err, IfErr, IfOk, ap, subst, Call, Tree, Pass, pass_in, IsBusyOf, User, UserHandle, Outcome, refusal, no_outcome, common_of, known_to, paused, user_tree, TriedOnce}
+use Rattle.mt_c.proofs.Prelude.{◌≡◌, ◌∙◌, ℕ, Some, None, Ok, Err, IfErr, IfOk, ap, subst, Call, Tree, Pass, pass_in, IsBusyOf, User, UserHandle, Outcome, refusal, no_outcome, common_of, known_to, paused, user_tree, TriedOnce, HasTriedKept, IsTriedKept, SharedTriedKept, TriedKept, kept_outcome, kept_status, when_kept}
 use Rattle.mt_base.specs.Passes as known
 use Rattle.mt_rule.specs.Turns as turns
 use Rattle.mt_tree.specs.Kept.{WasKept}
-use Rattle.mt_c.specs.SharedKept.{HasTriedKept, IsTriedKept, SharedTriedKept, TriedKept, kept_outcome, kept_status, when_kept}
 use Rattle.mt_c.proofs.Sharing.{on_closed, on_open}
 
 -- what a pass that was paused came to

@@ -70,3 +70,5 @@ module _ (rows passes calls : ℕ) (before after : Option OwnTree) (other other'
   pub of_open : (t : OwnTree) (number : ℕ) → before ≡ Some t → after ≡ Some t → unopened other.state ≡ Some number → other' ≡ other → status ≡ number → SharedOfTree rows passes calls before after other other' status
   of_open t number was is taken same told =
       opens t t was is (record { rest = refl; book = refl; kind = refl }) (subst (λ (o : Option ℕ). IfClosed o other other' status (OpensWith (shape t t was is (record { rest = refl; book = refl; kind = refl })) t.engine.sheet.tree other'.kept.value status)) (sym taken) (same, told))
+
+pub ruleset of_tree = (of_closed, of_open, of_made, of_none)

@@ -96,6 +96,8 @@ left_none h shut = record { closed = λ none. shut }
 pub left_some : (h : UserHandle) (u : User) → h.kept.value ≡ Some u → IsLeftClosed h
 left_some h u is = record { closed = λ none. absurd (cc) }
 
+pub ruleset new_handle = (new_open, new_bad, new_short, new_no_kind, bad_shape, left_none, left_some)
+
 -- what was made is put into a closed handle
 left_as : (made after : UserHandle) → after.kept.value ≡ made.kept.value → after.state ≡ made.state → IsLeftClosed made → IsLeftClosed after
 left_as made after kept state left = record { closed = λ none. state ∙ left.closed (sym kept ∙ none) }
@@ -105,6 +107,16 @@ pub opened_new : (code rows passes calls : ℕ) (before made after : UserHandle)
 opened_new code rows passes calls before made after status closed kept state left new =
     subst (λ (o : Option ℕ). IfClosed o before after status (SharedNew code rows passes calls after.kept.value status)) (sym (ap unopened closed))
     (left_as made after kept state left, subst (λ (o : Option User). SharedNew code rows passes calls o status) (sym kept) new)
+
+-- ---- a second handle
+
+-- what C keeps of a user was open and stays open
+pub kept_on : (o o' : Option User) (none : Type 0) (says : User → User → Type 0) (u v : User) → o ≡ Some u → o' ≡ Some v → says u v → SharedKept o o' none says
+kept_on o o' none says u v was is said = subst (λ (x : Option User × Option User). SharedKept x.0 x.1 none says) (λ i. (sym was i, sym is i)) said
+
+-- and where it was closed
+pub kept_off : (o o' : Option User) (none : Type 0) (says : User → User → Type 0) → o ≡ None → none → SharedKept o o' none says
+kept_off o o' none says was stays = subst (λ (x : Option User). SharedKept x o' none says) (sym was) stays
 
 -- ---- sharing
 
@@ -116,12 +128,10 @@ is_unchanged u v status why told chair kept number = (why, told, chair, kept, nu
 
 module _ (before after other other' : UserHandle) (status : ℕ) where
   with_kept : (u v : User) → before.kept.value ≡ Some u → after.kept.value ≡ Some v → OpensOther (unopened other.state) u v other other' status → SharedWith before after other other' status
-  with_kept u v was is said =
-      subst (λ (x : Option User × Option User). SharedKept x.0 x.1 (StaysAs before after status × (other' ≡ other)) (λ a b. OpensOther (unopened other.state) a b other other' status)) (λ i. (sym was i, sym is i)) said
+  with_kept u v was is said = kept_on before.kept.value after.kept.value (StaysAs before after status × (other' ≡ other)) (λ a b. OpensOther (unopened other.state) a b other other' status) u v was is said
 
   pub with_closed : before.kept.value ≡ None → after ≡ before → other' ≡ other → status ≡ refusal after.state → SharedWith before after other other' status
-  with_closed was is same number =
-      subst (λ (x : Option User). SharedKept x after.kept.value (StaysAs before after status × (other' ≡ other)) (λ a b. OpensOther (unopened other.state) a b other other' status)) (sym was) ((is, number), same)
+  with_closed was is same number = kept_off before.kept.value after.kept.value (StaysAs before after status × (other' ≡ other)) (λ a b. OpensOther (unopened other.state) a b other other' status) was ((is, number), same)
 
   pub with_busy : (u : User) (number : ℕ) → before.kept.value ≡ Some u → after.kept.value ≡ Some u → unopened other.state ≡ Some number → other' ≡ other → status ≡ number → SharedWith before after other other' status
   with_busy u number was is taken same told = with_kept u u was is (subst (λ (o : Option ℕ). OpensOther o u u other other' status) (sym taken) (refl, same, told))
@@ -135,6 +145,8 @@ module _ (before after other other' : UserHandle) (status : ℕ) where
 
     pub with_none : other'.kept.value ≡ None → other'.state ≡ 0 → common_of v ≡ common_of u → v.walker ≡ u.walker → IsUnchanged u v status → SharedWith before after other other' status
     with_none still shut common walker unchanged = opens (left_none other' shut) (subst (λ (o : Option User). OpensBeside u v o status) (sym still) (record { common = common; walker = walker }, unchanged))
+
+pub ruleset with_other = (with_closed, with_busy, with_made, with_none)
 
 -- ---- leaving
 

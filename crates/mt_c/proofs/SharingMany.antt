@@ -1,18 +1,9 @@
 -- What the calls of C say that read an entry alone, many entries, or many ranges, read off what a user does.
-use Rattle.mt_c.proofs.Prelude.{◌≡◌, ◌++◌, ◌∙◌, ◌∷◌, ◌<◌, ◌≤◌, ℕ, List, [], get_or, length-map, map-append, Option, Some, None, sym, ap, subst, refl, ◌+◌, ◌*◌, arith, Read, Tree, Took, Takes, User, UserHandle, OutWalk, OnKept, refusal, common_of, known_to, paused, user_tree, IsOnNoWalk, walk_index, Walker, Pass, knows, halted, Continues, IsOnAt, IsSome, IfSome, IsKeptWalk, IsWalkOf, true≢false, Range, Cursor, closed_by, opened, Load, HasRead, option_map, length}
-use Rattle.std.specs.Prelude.{Bool, drop, is_none, false, map, min, set, take, true, unwrap_or}
-use Rattle.std.proofs.Common.{append_assoc}
+use Rattle.mt_c.proofs.Prelude.{◌≡◌, ◌++◌, ◌∙◌, ◌∷◌, ◌<◌, ◌≤◌, ℕ, List, [], get_or, length-map, map-append, Option, Some, None, sym, ap, subst, refl, ◌+◌, ◌*◌, arith, Read, Tree, Took, Takes, User, UserHandle, OutWalk, OnKept, refusal, common_of, known_to, paused, user_tree, IsOnNoWalk, walk_index, Walker, Pass, knows, halted, Continues, IsOnAt, IsSome, IfSome, IsKeptWalk, IsWalkOf, true≢false, Range, Cursor, closed_by, opened, Load, HasRead, option_map, length, many_status, range_out, HasWalkedOut, IsLeftAt, PutsMany, most_found, SharedEntry, SharedLoadedMany, SharedSteppedMany, no_times, cursor_place, times_of, IsEntry, walk_from, OutRange, HasLoadedMany, HasPutMany, HasWalkedMany, append_assoc, Bool, drop, is_none, false, map, min, set, take, true, unwrap_or, drop_more, length-append, length-take-le, set_at, take_more}
 use Rattle.std.proofs.Math.Seq.{take-append_seam}
-use Rattle.std.proofs.lemmas.List.{drop_more, length-append, length-take-le, set_at, take_more}
 use Rattle.mt_base.specs.Passes as known
 use Rattle.mt_read.proofs.Batching.{unwrapped}
-use Rattle.mt_tree.specs.Many.{HasLoadedMany, HasPutMany, HasWalkedMany}
-use Rattle.mt_c.specs.Walkers.{IsEntry}
-use Rattle.mt_c.specs.SharedMany.{HasWalkedOut, IsLeftAt, PutsMany, most_found, SharedEntry, SharedLoadedMany, SharedSteppedMany, no_times, place_in, times_of}
 use Rattle.mt_c.specs.declared.shared_many.OutWindow.{OutWindow}
-use Rattle.mt_c.specs.declared.told.OutRange.{OutRange}
-use Rattle.mt_c.specs.Calls.{many_status, range_out}
-use Rattle.mt_c.specs.Walking.{walk_from}
 use Rattle.mt_c.proofs.Sharing.{on_closed, on_open}
 use Rattle.mt_c.proofs.Using.{last_one, read_rests}
 
@@ -116,12 +107,12 @@ on_out t p q (Some w) None buffer buffer' old new r long put many = tt
 on_out t p q (Some w) (Some w') buffer buffer' old new r long put many = walked_out t p q w w' buffer buffer' old new r long put many
 
 -- a batch of the walk that it was on, and where that stands then
-pub is_step_many : (t : Tree) (v m n v' : Walker) (from : ℕ) (old new : List OutRange) (r : Read ℕ) (place : Option ℕ) → place ≡ place_in n.walk → IsOnAt m.walk (Some from) → IfSome m.walk (Continues from v m.pass) → IfSome m.walk (λ w. IfSome n.walk (HasWalkedOut t m.pass w old new r n.pass)) → IsSome n.walk
+pub is_step_many : (t : Tree) (v m n v' : Walker) (from : ℕ) (old new : List OutRange) (r : Read ℕ) (place : Option ℕ) → place ≡ cursor_place n.walk → IsOnAt m.walk (Some from) → IfSome m.walk (Continues from v m.pass) → IfSome m.walk (λ w. IfSome n.walk (HasWalkedOut t m.pass w old new r n.pass)) → IsSome n.walk
     → ((w : Cursor) → n.walk ≡ Some w → IsLeftAt w.at n.pass w v') → Took 0 v m.pass → Takes 1 n.pass v'.pass → PutsMany t v (Some from) old new r place v'
 is_step_many t v m n v' from old new r place is at begins walked some left before last = subst (λ (o : Option ℕ). PutsMany t v (Some from) old new r o v') (sym is) (by_walks m.walk n.walk refl refl at begins walked some)
   where
     by_walks : (o o' : Option Cursor) → m.walk ≡ o → n.walk ≡ o' → IsOnAt o (Some from) → IfSome o (Continues from v m.pass) → IfSome o (λ w. IfSome o' (HasWalkedOut t m.pass w old new r n.pass)) → IsSome o'
-        → PutsMany t v (Some from) old new r (place_in o') v'
+        → PutsMany t v (Some from) old new r (cursor_place o') v'
     by_walks None o' e e' at begins walked some = elim at [ ]
     by_walks (Some w) None e e' at begins walked some = absurd (true≢false (sym some))
     by_walks (Some w) (Some w') e e' at begins walked some = (
@@ -145,11 +136,11 @@ is_step_many t v m n v' from old new r place is at begins walked some left befor
     )
 
 -- the walk that it is on is at its place
-placed : (walk : Option Cursor) (w : Cursor) → walk ≡ Some w → w.at ≡ place_in walk
-placed walk w on = sym (ap place_in on)
+placed : (walk : Option Cursor) (w : Cursor) → walk ≡ Some w → w.at ≡ cursor_place walk
+placed walk w on = sym (ap cursor_place on)
 
 -- a walk that stands at a place is kept as it is
-pub left_standing : (n : Walker) (place : Option ℕ) → place ≡ place_in n.walk → is_none place ≡ false → (w : Cursor) → n.walk ≡ Some w → IsLeftAt w.at n.pass w n
+pub left_standing : (n : Walker) (place : Option ℕ) → place ≡ cursor_place n.walk → is_none place ≡ false → (w : Cursor) → n.walk ≡ Some w → IsLeftAt w.at n.pass w n
 left_standing n place is stands w on = by_place w.at (ap is_none (placed n.walk w on ∙ sym is) ∙ stands)
   where
     by_place : (at : Option ℕ) → is_none at ≡ false → IsLeftAt at n.pass w n
@@ -157,7 +148,7 @@ left_standing n place is stands w on = by_place w.at (ap is_none (placed n.walk 
     by_place (Some at) stands = (refl, on)
 
 -- one that has ended is paused
-pub left_ended : (n v' : Walker) (place : Option ℕ) → place ≡ place_in n.walk → is_none place ≡ true → knows v' ≡ halted n → v'.walk ≡ None → Took 0 n v'.pass → (w : Cursor) → n.walk ≡ Some w → IsLeftAt w.at n.pass w v'
+pub left_ended : (n v' : Walker) (place : Option ℕ) → place ≡ cursor_place n.walk → is_none place ≡ true → knows v' ≡ halted n → v'.walk ≡ None → Took 0 n v'.pass → (w : Cursor) → n.walk ≡ Some w → IsLeftAt w.at n.pass w v'
 left_ended n v' place is ended closed none took w on = by_place w.at (ap is_none (placed n.walk w on ∙ sym is) ∙ ended)
   where
     by_place : (at : Option ℕ) → is_none at ≡ true → IsLeftAt at n.pass w v'

@@ -1,7 +1,6 @@
 -- What a user of a shared tree does: which section stands open is no part of what a read says, and where a walk goes on.
-use Rattle.mt_c.proofs.Prelude.{◌≡◌, ◌∙◌, ℕ, suc, get_or, List, [], ◌∷◌, ◌++◌, ◌<◌, ◌^◌, length, map, refl, sym, ap, subst, arith, Bool, true, false, true≢false, Option, Some, None, eqb-true, le-leb, length-map, map-append, length-map-range_with_len, slice_get-get_or, slice_get-map, ◌↔◌, ◌+◌, ◌≤◌, All, Ok, Err, Result, IfOk, IfErr, IfSome, IsSome, if◌then◌else◌, option_map, slice_get, Snapshot, Badge, Call, Query, Load, Range, History, Cursor, KeptLeaf, IsOnKeptLeaf, place_behind, place_within, find_at, WasLeftMarked, WasMoved, HasRead, Given, cuts_of, Sight, Busy, TurnView, part_of, turn_seat, Read, Tree, IsForNeighbour, unbounded, HaveMet, IsNew, IsPassOf, Pass, Takes, TriesOnce, limit_of, passes_of, pass_in, steps_made, opened, IsBusyOf, WasMade, HasWalked, IsWalkOf, Field, MakeError, Shape, first_bad, Common, Purse, User, Left, Walker, IsPurseBusy, IsChairAtPurse, RestsInPurse, WasGiven, WasKept, first_in, no_receipts, IsSparePass, IsKeptWalk, last_index, HasLeft, IsFirstUser, IsOfPurse, IsSettledUser, IsSynced, IsWhy, common_of, cuts, known_to, user_tree, Answer, Continues, GaveUp, GoesFrom, WalkGoesOn, IsWalkAnswer, IsOnNoWalk, IsLeftBy, IsOnAt, IsReadBy, IsStep, IsTried, KnowsAs, Took, Tried, TriedOnce, WentOnce, closed_by, halted, walk_is_at, knows, new_walk, pausing, stands_at}
+use Rattle.mt_c.proofs.Prelude.{◌≡◌, ◌∙◌, ℕ, suc, get_or, List, [], ◌∷◌, ◌++◌, ◌<◌, ◌^◌, length, map, refl, sym, ap, subst, arith, Bool, true, false, true≢false, Option, Some, None, eqb-true, le-leb, length-map, map-append, length-map-range_with_len, slice_get-get_or, slice_get-map, ◌↔◌, ◌+◌, ◌≤◌, All, Ok, Err, Result, IfOk, IfErr, IfSome, IsSome, if◌then◌else◌, option_map, slice_get, Snapshot, Badge, Call, Query, Load, Range, History, Cursor, KeptLeaf, IsOnKeptLeaf, place_behind, place_within, find_at, WasLeftMarked, WasMoved, HasRead, Given, cuts_of, Sight, Busy, TurnView, part_of, turn_seat, Read, Tree, IsForNeighbour, unbounded, HaveMet, IsNew, IsPassOf, Pass, Takes, TriesOnce, limit_of, passes_of, pass_in, steps_made, opened, IsBusyOf, WasMade, HasWalked, IsWalkOf, Field, MakeError, Shape, first_bad, Common, Purse, User, Left, Walker, IsPurseBusy, IsChairAtPurse, RestsInPurse, WasGiven, WasGivenBack, first_in, no_receipts, IsSparePass, IsKeptWalk, last_index, HasLeft, IsFirstUser, IsOfPurse, IsSettledUser, IsSynced, IsWhy, common_of, cuts, known_to, user_tree, Answer, Continues, GaveUp, GoesFrom, WalkGoesOn, IsWalkAnswer, IsOnNoWalk, IsLeftBy, IsOnAt, IsReadBy, IsStep, IsTried, KnowsAs, Took, Tried, TriedOnce, WentOnce, closed_by, halted, walk_is_at, knows, new_walk, pausing, stands_at, TriedShut}
 use Rattle.mt_base.specs.Passes as known
-use Rattle.mt_c.specs.Walkers.{TriedShut}
 use Rattle.mt_keep.specs.declared.keep.Busy as away
 use Rattle.mt_rule.specs.Turns as turns
 use Rattle.mt_tree.specs.declared.shapes.MakeError.TheVariants as make_error
@@ -275,7 +274,7 @@ pub synced : (t : Tree) (p q : known.Pass) (ps qs : List known.Pass) (calls : �
 synced t p q ps qs calls met = let mine = met.each 0 p q refl refl in (mine.0, ap length mine.1 ∙ met.all)
 
 -- what was taken and given back as it was
-pub given_same : (c : Common) (n cuts : ℕ) (given : Given Purse Tree) (took gave : List known.Pass) → WasGiven c n took gave given → n ≡ cuts → gave ≡ took → WasKept c cuts given
+pub given_same : (c : Common) (n cuts : ℕ) (given : Given Purse Tree) (took gave : List known.Pass) → WasGiven c n took gave given → n ≡ cuts → gave ≡ took → WasGivenBack c cuts given
 given_same c n cuts given took gave was one same = record { at = was.at; cut = was.cut ∙ one; took = refl; gave = was.gave ∙ (same ∙ sym was.took) }
 
 -- and was empty
@@ -385,3 +384,11 @@ is_first shape opening t ps u new tree last chair walk none = record {
   walk = walk;
   none = none;
 }
+
+-- ---- each at once
+
+-- of a settling
+pub ruleset settles = (settled, unpursed, locked, rests_in_purse, went_after)
+
+-- of a walk from an index
+pub ruleset walks_from = (from_any, begins_walk, stands_on, paused_knows, same_knows, at_index, goes_kept, goes_anew, is_new_walk, took_none)

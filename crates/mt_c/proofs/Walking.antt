@@ -1,7 +1,5 @@
 -- A step of a walk that C keeps.
-use Rattle.mt_c.proofs.Prelude.{◌≡◌, ◌∙◌, ℕ, ◌≤◌, false, Option, Some, None, refl, sym, ap, subst, IfSome, le-leb, Kind, Range, Call, Reply, Book, greatest, map_by, OnlyReads, Rooted, Sheet, Parts, RangeWalk, WalksFrom, StepsWithin, found_from, index_behind, OwnTree, IsAsked, found_status, no_range, out_of, IsStepped, HasSteppedOn, walk_index, walk_start, last_index_of, walk_from, OutRange, OutWalk}
-use Rattle.mt_engine.specs.Engine.{IsEnded}
-use Rattle.mt_engine.specs.Rooms.{IsScanned}
+use Rattle.mt_c.proofs.Prelude.{◌≡◌, ◌∙◌, ℕ, ◌≤◌, false, Option, Some, None, refl, sym, ap, subst, IfSome, le-leb, Kind, Range, Call, Reply, Book, greatest, map_by, OnlyReads, Rooted, Sheet, Parts, RangeWalk, WalksFrom, StepsWithin, found_from, index_behind, OwnTree, IsAsked, found_status, no_range, out_of, IsStepped, HasSteppedOn, walk_index, walk_start, last_index_of, walk_from, OutRange, OutWalk, IsEnded, IsScanned}
 
 -- a walk goes on where a tree was only read
 pub walks_if_read : (s s' : Sheet) (walk : RangeWalk) → OnlyReads s s' → WalksFrom s.tree walk → WalksFrom s'.tree walk

@@ -2,13 +2,11 @@
 -- Source: the kernel's include/uapi/asm-generic/errno-base.h and errno.h: ENOENT, EBADF, ENOMEM, EBUSY, EEXIST, EINVAL
 -- and EOVERFLOW.
 use Rattle.std.specs.Prelude.{◌≡◌, ℕ, ◌<◌, ◌≤◌, ◌==◌, false, Option, Some, None, if◌then◌else◌}
-use Rattle.mt_c.specs.Prelude.{Call, Query, Load, Range, Reply, Shortage, answer, map_by, OnlyReads, Parts, IsApplied}
-use Rattle.mt_base.specs.Map.{entry_or_zero}
+use Rattle.mt_c.specs.Prelude.{Call, Query, Load, Range, Reply, Shortage, answer, map_by, OnlyReads, Parts, IsApplied, most_calls, entry_or_zero}
 use Rattle.mt_base.specs.declared.replies.Reply.TheVariants as answers
 use Rattle.mt_c.specs.Own.{OwnTree}
 use Rattle.mt_c.specs.declared.told.OutRange.{OutRange}
 use Rattle.mt_c.specs.declared.told.ToldCall.{ToldCall}
-use Rattle.mt_base.specs.Limits.{most_calls}
 
 -- ---- numbers and answers
 

@@ -3,7 +3,7 @@
 use Rattle.std.specs.Prelude.{◌≡◌, ◌⊎◌, ℕ, ◌<◌, ◌≤◌, List, Option, Some, None, Result, Ok, Err, Vec}
 use Rattle.std.specs.Global.{Global}
 use Rattle.mt_base.specs.Passes as known
-use Rattle.mt_c.specs.Prelude.{Busy, DupError, Look, Shape, Tree, IsLookAt, first_bad, IsNew, Pass, Takes, live_rows, map_seen, opened, words_in, IsBusyOf}
+use Rattle.mt_c.specs.Prelude.{Busy, DupError, Look, Shape, Tree, IsLookAt, first_bad, IsNew, Pass, Takes, live_rows, map_seen, opened, looked_words, IsBusyOf}
 use Rattle.mt_tree.specs.declared.shapes.DupError.TheVariants as errors
 use Rattle.mt_c.specs.declared.receipts.Receipts.{Receipts}
 use Rattle.mt_c.specs.declared.user.User.{User}
@@ -18,8 +18,8 @@ use Rattle.mt_c.specs.Walkers.{IsOnNoWalk, TriedShut, knows, shut}
 -- ---- under the lock
 
 -- a new tree and its passes (handles), or why there is none
-abbrev pub Made : Type 0
-Made = Result (Tree × Vec Pass Global) DupError
+abbrev pub MadeOrWhy : Type 0
+MadeOrWhy = Result (Tree × Vec Pass Global) DupError
 
 -- The handle has not gone for the lock, and knows what it knew. Its section is closed.
 abbrev pub KeptOff : Walker → Walker → Type 0
@@ -34,7 +34,7 @@ abbrev pub FoundIt : Tree → Walker → Busy → Walker → Type 0
 FoundIt t w busy w' = TriedShut w w' × IsBusyOf t busy × (knows w' ≡ shut w)
 
 -- Why no copy of this shape was begun: the first field that is out of range; or memory ran out for one that is in range.
-abbrev pub IsUnmade : Shape → Made → Type 0
+abbrev pub IsUnmade : Shape → MadeOrWhy → Type 0
 IsUnmade shape (Ok r) = ⊥
 IsUnmade shape (Err (errors.BadShape field)) = first_bad shape ≡ Some field
 IsUnmade shape (Err errors.Invalid) = ⊥
@@ -43,25 +43,25 @@ IsUnmade shape (Err errors.NoMemory) = first_bad shape ≡ None
 
 -- A tree of the shape was made with the map that the handle has then seen. Or its nodes are fewer than those in use in the words
 -- that the lock protected; or memory ran out.
-abbrev pub IsMadeBy : Shape → Tree → known.Pass → Look → Made → Type 0
-IsMadeBy shape t q look (Ok r) = (live_rows (words_in look) ≤ shape.rows) × IsNew shape (map_seen t q) r.0 r.1.items
+abbrev pub IsMadeBy : Shape → Tree → known.Pass → Look → MadeOrWhy → Type 0
+IsMadeBy shape t q look (Ok r) = (live_rows (looked_words look) ≤ shape.rows) × IsNew shape (map_seen t q) r.0 r.1.items
 IsMadeBy shape t q look (Err (errors.BadShape field)) = ⊥
 IsMadeBy shape t q look (Err errors.Invalid) = ⊥
-IsMadeBy shape t q look (Err (errors.NoNodes rows live)) = shape.rows < live_rows (words_in look)
+IsMadeBy shape t q look (Err (errors.NoNodes rows live)) = shape.rows < live_rows (looked_words look)
 IsMadeBy shape t q look (Err errors.NoMemory) = Unit {0}
 
 -- The handle looked for a copy of a shape that is in range, and this came of it.
-pub record IsMadeLooking (shape : Shape) (t : Tree) (w : Walker) (look : Look) (made : Made) (w' : Walker) : Type 0 where
+pub record IsMadeLooking (shape : Shape) (t : Tree) (w : Walker) (look : Look) (made : MadeOrWhy) (w' : Walker) : Type 0 where
   pub looked : LookedOnce t w look w'
   pub good : first_bad shape ≡ None
   pub by : IsMadeBy shape t (knows w') look made
 
-abbrev pub IsMadeIn : Shape → Tree → Walker → Made → Option Look → Walker → Type 0
+abbrev pub IsMadeIn : Shape → Tree → Walker → MadeOrWhy → Option Look → Walker → Type 0
 IsMadeIn shape t w made None w' = KeptOff w w' × IsUnmade shape made
 IsMadeIn shape t w made (Some look) w' = IsMadeLooking shape t w look made w'
 
 -- A shape that is out of range does not find the lock taken.
-abbrev pub IsTriedCopy : Shape → Tree → Walker → Result (Made × Option Look) Busy → Walker → Type 0
+abbrev pub IsTriedCopy : Shape → Tree → Walker → Result (MadeOrWhy × Option Look) Busy → Walker → Type 0
 IsTriedCopy shape t w (Ok found) w' = IsMadeIn shape t w found.0 found.1 w'
 IsTriedCopy shape t w (Err busy) w' = FoundIt t w busy w' × (first_bad shape ≡ None)
 
@@ -88,15 +88,15 @@ FoundTaken u v = (busy : Busy) × FoundIt (user_tree u) u.walker busy v.walker �
 -- use in the words that the lock protected; or ENOMEM.
 abbrev pub LacksCopy : Shape → ℕ → User → User → Type 0
 LacksCopy shape status u v =
-    ((status ≡ 11) × FoundTaken u v) ⊎ (((status ≡ 33) × (look : Look) × HasLooked look u v × (shape.rows < live_rows (words_in look))) ⊎ ((status ≡ 12) × (KeepsOff u v ⊎ ((look : Look) × HasLooked look u v))))
+    ((status ≡ 11) × FoundTaken u v) ⊎ (((status ≡ 33) × (look : Look) × HasLooked look u v × (shape.rows < live_rows (looked_words look))) ⊎ ((status ≡ 12) × (KeepsOff u v ⊎ ((look : Look) × HasLooked look u v))))
 
 -- the user has looked under the lock, and a tree of the shape was made with the map that it has then seen
 abbrev pub HasMade : Shape → Tree → List Pass → User → User → Type 0
-HasMade shape t ps u v = (look : Look) × HasLooked look u v × (first_bad shape ≡ None) × (live_rows (words_in look) ≤ shape.rows) × IsNew shape (map_seen (user_tree u) (known_to v)) t ps
+HasMade shape t ps u v = (look : Look) × HasLooked look u v × (first_bad shape ≡ None) × (live_rows (looked_words look) ≤ shape.rows) × IsNew shape (map_seen (user_tree u) (known_to v)) t ps
 
 -- there is a copy: by what it has then seen the user opened this one, the first of a tree with that map
 abbrev pub HasOpened : Shape → User → User → User → Type 0
-HasOpened shape w u v = (look : Look) × HasLooked look u v × (live_rows (words_in look) ≤ shape.rows) × IsFirstWith shape (map_seen (user_tree u) (known_to v)) w
+HasOpened shape w u v = (look : Look) × HasLooked look u v × (live_rows (looked_words look) ≤ shape.rows) × IsFirstWith shape (map_seen (user_tree u) (known_to v)) w
 
 -- A user has copied its tree, or says by a number why not. A shape that is out of range gives the number of its first such
 -- field, and then the user has not gone for the lock.

@@ -1,8 +1,8 @@
 -- Many look-ups and many steps of a walk in one call, as C has them: they return what that many single calls would have
 -- returned.
 -- Source: this project's own; the kernel is asked for one index, or one range, at a time.
-use Rattle.std.specs.Prelude.{◌≡◌, ℕ, List, Option, Some, None, length, map, take}
-use Rattle.mt_engine.specs.Batches.{Stepped, entries_at, put_first, steps_from}
+use Rattle.std.specs.Prelude.{◌≡◌, ℕ, List, Option, Some, None, length, take}
+use Rattle.mt_engine.specs.Batches.{PutSteps, Stepped, entries_at, put_first, steps_by}
 use Rattle.mt_c.specs.Prelude.{map_by}
 use Rattle.mt_c.specs.declared.told.OutRange.{OutRange}
 use Rattle.mt_c.specs.declared.steps.OutWalk.{OutWalk}
@@ -23,16 +23,14 @@ LoadedMany indexes (Some t) (Some t') status out out' =
 -- ---- steps of a walk
 
 -- what this many steps find from an index on, and where they leave the walk
-abbrev pub steps_of : OwnTree → ℕ → Option ℕ → Stepped
-steps_of t most from = steps_from (map_by t.engine.sheet.tree) (last_index_of t) most (walk_start (last_index_of t) from)
+abbrev pub tree_steps : OwnTree → ℕ → Option ℕ → Stepped
+tree_steps t most from = steps_by t.engine.sheet.tree most (walk_start (last_index_of t) from)
 
 -- As many steps as there are places, from an index: the ranges that they find are in the first places, and are counted. The
 -- tree keeps the place after them.
 pub record HasSteppedMany (t t' : OwnTree) (from : Option ℕ) (out out' : List OutRange) (count : ℕ) : Type 0 where
   pub rest : IsAsked t.engine t'.engine
-  pub put : out' ≡ put_first (map range_out (steps_of t (length out) from).found) out
-  pub many : count ≡ length (steps_of t (length out) from).found
-  pub place : t'.place.next ≡ (steps_of t (length out) from).next
+  pub put : PutSteps range_out (tree_steps t (length out) from) out out' count t'.place.next
 
 -- If none was found and the walk has ended, that is ENOENT. With no place it goes on from where it was, or has ended if that is
 -- above the tree's greatest index. A closed tree is EBADF, and the walk and all places are unchanged.

@@ -1,10 +1,9 @@
 -- Stores for which nodes are found free beforehand, as C has them.
 -- Source: the kernel's documentation of the maple tree, mas_preallocate and mas_store_prealloc.
 use Rattle.std.specs.Prelude.{◌≡◌, ◌⊎◌, ℕ, ◌<◌, ◌≤◌, Option, Some, None}
-use Rattle.mt_c.specs.Prelude.{Call, Reply, Parts, IsPrestored, HasRoom, IsScanned, IsReady}
+use Rattle.mt_c.specs.Prelude.{Call, Reply, Parts, IsPrestored, HasRoom, IsScanned, IsReady, most_calls}
 use Rattle.mt_c.specs.Own.{OwnTree}
 use Rattle.mt_c.specs.Calls.{status_of, word_in_c}
-use Rattle.mt_base.specs.Limits.{most_calls}
 
 -- the nodes were scanned, and those that no section holds are free
 pub record IsPrepared (t t' : Parts) : Type 0 where

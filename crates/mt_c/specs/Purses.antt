@@ -41,8 +41,8 @@ pub record WasGiven (c : Common) (cuts : ℕ) (found left : List known.Pass) (gi
   pub gave : known_in given.gave.value ≡ left
 
 -- It was given back as it was found.
-abbrev pub WasKept : Common → ℕ → Given Purse Tree → Type 0
-WasKept c cuts given = WasGiven c cuts (known_in given.took.value) (known_in given.took.value) given
+abbrev pub WasGivenBack : Common → ℕ → Given Purse Tree → Type 0
+WasGivenBack c cuts given = WasGiven c cuts (known_in given.took.value) (known_in given.took.value) given
 
 -- No handle of the purse went for the tree's lock meanwhile.
 abbrev pub RestsInPurse : Given Purse Tree → Type 0

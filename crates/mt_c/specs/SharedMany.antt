@@ -72,9 +72,9 @@ StepsMany t w None room found r at w' =
 StepsMany t w (Some from) room found r at w' = IsStepMany t w from room found r at w'
 
 -- where a walk goes on; no walk, no place
-abbrev pub place_in : Option Cursor → Option ℕ
-place_in None = None
-place_in (Some walk) = walk.at
+abbrev pub cursor_place : Option Cursor → Option ℕ
+cursor_place None = None
+cursor_place (Some walk) = walk.at
 
 -- The ranges that were found are in the first places of C's, whose others are unchanged.
 abbrev pub PutsMany : Tree → Walker → Option ℕ → List OutRange → List OutRange → Read ℕ → Option ℕ → Walker → Type 0

@@ -13,7 +13,7 @@ use Rattle.mt_c.specs.declared.user_acts.Settling.TheVariants as settling
 use Rattle.mt_c.specs.declared.user_opens.Left.{Left}
 use Rattle.mt_c.specs.declared.user_opens.Unchanged.{Unchanged}
 use Rattle.mt_c.specs.declared.user_opens.Unchanged.TheVariants as unchanged
-use Rattle.mt_c.specs.Purses.{IsPurseBusy, IsChairAtPurse, RestsInPurse, WasGiven, WasKept, first_in, known_in}
+use Rattle.mt_c.specs.Purses.{IsPurseBusy, IsChairAtPurse, RestsInPurse, WasGiven, WasGivenBack, first_in, known_in}
 use Rattle.mt_c.specs.Receipts.{no_receipts}
 use Rattle.mt_c.specs.Walkers.{IsOnNoWalk, Took, WentOnce, halted, knows}
 use Rattle.mt_c.specs.declared.walker.Walker.{Walker}
@@ -91,7 +91,7 @@ pub record HasLeft (c : Common) (cuts : ℕ) (p : known.Pass) (left : Left) : Ty
 abbrev pub IsWhy : Common → ℕ → Unchanged → Type 0
 IsWhy c before (unchanged.Busy busy) = IsPurseBusy c (before + 1) busy
 IsWhy c before (unchanged.NoPlace given) = WasGiven c (before + 1) [] [] given
-IsWhy c before (unchanged.NoMemory given) = WasKept c (before + 1) given
+IsWhy c before (unchanged.NoMemory given) = WasGivenBack c (before + 1) given
 
 -- who leaves needs no place
 abbrev pub WantsNoPlace : Unchanged → Type 0
@@ -112,7 +112,7 @@ IsSynced t p (Err busy) q = IsBusyOf t busy × (q ≡ p)
 abbrev pub IsSettledUser : Common → ℕ → known.Pass → Result (ℕ × ℕ × Given Purse Tree) Settling → known.Pass → Type 0
 IsSettledUser c cut p (Ok r) q = (before : List known.Pass) × (after : List known.Pass) × HaveMet c.tree (p ∷ before) (q ∷ after) r.0 × (r.1 ≡ length after) × WasGiven c (cut + 1) before after r.2 × RestsInPurse r.2
 IsSettledUser c cut p (Err (settling.Unpursed busy)) q = IsPurseBusy c (cut + 1) busy × (q ≡ p)
-IsSettledUser c cut p (Err (settling.Locked busy given)) q = IsBusyOf c.tree busy × WasKept c (cut + 1) given × RestsInPurse given × (q ≡ p)
+IsSettledUser c cut p (Err (settling.Locked busy given)) q = IsBusyOf c.tree busy × WasGivenBack c (cut + 1) given × RestsInPurse given × (q ≡ p)
 
 -- The user itself went for the lock once, if it had the purse.
 abbrev pub WentToSettle : Result (ℕ × ℕ × Given Purse Tree) Settling → Walker → Walker → Type 0

@@ -1,8 +1,7 @@
 -- What a pass (handle) of a shared tree does on its walk and off it: reads without the lock, and calls that try for it.
 -- Source: this project's own; the kernel's documentation of the maple tree, mas_find over a struct ma_state that the caller keeps.
 use Rattle.std.specs.Prelude.{◌≡◌, ℕ, ◌+◌, ◌≤◌, ◌==◌, Bool, true, false, Option, Some, None, Result, Ok, Err}
-use Rattle.mt_c.specs.Prelude.{Call, Query, Load, Range, Cursor, Moved, place_behind, find_at, WasLeftMarked, WasMoved, HasRead, Busy, part_of, turn_seat, Done, Read, Worn, Tree, IsForNeighbour, unbounded, Pass, Takes, pass_in, steps_made, opened, IsBusyOf, WasMade, HasWalked}
-use Rattle.mt_base.specs.Map.{entry_or_zero}
+use Rattle.mt_c.specs.Prelude.{Call, Query, Load, Range, Cursor, Moved, place_behind, find_at, WasLeftMarked, WasMoved, HasRead, Busy, part_of, turn_seat, Done, Read, Worn, Tree, IsForNeighbour, unbounded, Pass, Takes, pass_in, steps_made, opened, IsBusyOf, WasMade, HasWalked, entry_or_zero}
 use Rattle.mt_base.specs.Passes as known
 use Rattle.mt_rule.specs.Turns as turns
 use Rattle.mt_c.specs.declared.walker.Walker.{Walker}

@@ -7,7 +7,7 @@ ghost use Rattle.mt_list.specs.Places as places;
 ghost use Rattle.mt_c.specs.Bounded.{SharedSteppedTo, SteppedTo, StepsTo};
 ghost use Rattle.mt_c.specs.Users.{common_of, user_tree};
 
-use crate::handle::Handle;
+use crate::handle::TreeHandle;
 use crate::shared_told::{CallWindow, answer_told, seen};
 use crate::steps::{OutWalk, tell};
 use crate::told::{EBADF, OutRange, no_range};
@@ -44,7 +44,8 @@ impl Walker {
     fn step_to(&mut self, tree: &Tree, place: Option<u64>, max: u64) -> Read<Option<Range>>
         requires { IsPassOf tree.now self.old.pass }
         ensures of { IsPassOf tree.now self.new.pass }
-        ensures stepped { StepsTo tree.now self.old max (defined.place_to max place) result self.new }
+        ensures stepped { StepsTo tree.now self.old max
+            (defined.place_to max place) result self.new }
     {
         let found = self.step_from(tree, place_to(place, max));
         let value = up_to(found.value, max);
@@ -70,7 +71,8 @@ impl User {
         ensures common { common_of self.new ≡ common_of self.old }
         ensures chair { self.new.chair ≡ self.old.chair }
         ensures receipts { self.new.receipts ≡ self.old.receipts }
-        ensures stepped { StepsTo (user_tree self.old) self.old.walker max (defined.place_to max place) result self.new.walker }
+        ensures stepped { StepsTo (user_tree self.old) self.old.walker max
+            (defined.place_to max place) result self.new.walker }
     {
         self.walker.step_to(&self.common.tree, place, max)
     }
@@ -81,12 +83,13 @@ impl User {
 #[unsafe(no_mangle)]
 pub extern "C" fn maple_step_to(
     alloc: Global,
-    tree: &mut Handle,
+    tree: &mut TreeHandle,
     walk: &mut OutWalk,
     max: u64,
     range: &mut OutRange,
 ) -> u32
-    ensures { SteppedTo max walk.old tree.old.kept.value tree.new.kept.value result range.new walk.new }
+    ensures { SteppedTo max
+        walk.old tree.old.kept.value tree.new.kept.value result range.new walk.new }
 {
     let Some(mut whole) = tree.take(alloc) else {
         *range = no_range();

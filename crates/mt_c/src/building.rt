@@ -8,7 +8,7 @@ ghost use Rattle.mt_c.specs.Building as defined;
 ghost use Rattle.mt_c.specs.Building.{Builds, IsOfRanges, LacksAnyhow, LacksRanges};
 
 use crate::copies::{fitted, used_in};
-use crate::handle::Handle;
+use crate::handle::TreeHandle;
 use crate::opens::kind_of;
 use crate::own_tree::OwnTree;
 use crate::told::{EALREADY, EDOM, EINVAL, ENOMEM, OutRange};
@@ -67,8 +67,10 @@ fn taken(alloc: Global, ranges: &[OutRange]) -> Result<Vec<Range>, NoMemory>
 /// The nodes of a tree that has just these ranges, as few as hold it.
 #[tactic(auto, using(crate::proofs::RangesBuilt::order_kept, crate::proofs::RangesBuilt::why_refused))]
 pub fn built(alloc: Global, kind: Kind, ranges: &[OutRange]) -> Result<PlainRows, BuildWhy>
-    ensures order { IfOk result (λ rows. misplaced kind (map defined.range_from_c ranges.now) ≡ None) }
-    ensures rows { IfOk result (λ rows. IsBuilt kind (map defined.range_from_c ranges.now) (sheet_in rows)) }
+    ensures order { IfOk result
+        (λ rows. misplaced kind (map defined.range_from_c ranges.now) ≡ None) }
+    ensures rows { IfOk result
+        (λ rows. IsBuilt kind (map defined.range_from_c ranges.now) (sheet_in rows)) }
     ensures lacks { IfErr result (LacksAnyhow kind (map defined.range_from_c ranges.now)) }
 {
     let Ok(ranges) = taken(alloc, ranges) else {
@@ -88,8 +90,10 @@ fn of_ranges(
     rows: u64,
     ranges: &[OutRange],
 ) -> Result<Box<OwnTree>, BuildWhy>
-    ensures tree { IfOk result (λ whole. IsOfRanges code rows (map defined.range_from_c ranges.now) whole.value.engine) }
-    ensures lacks { IfErr result (λ why. LacksRanges code rows (map defined.range_from_c ranges.now) why.status why.at) }
+    ensures tree { IfOk result
+        (λ whole. IsOfRanges code rows (map defined.range_from_c ranges.now) whole.value.engine) }
+    ensures lacks { IfErr result
+        (λ why. LacksRanges code rows (map defined.range_from_c ranges.now) why.status why.at) }
 {
     let Some(kind) = kind_of(code) else {
         return Err(BuildWhy::alone(EINVAL));
@@ -112,13 +116,14 @@ fn of_ranges(
 #[unsafe(no_mangle)]
 pub extern "C" fn maple_build(
     alloc: Global,
-    tree: &mut Handle,
+    tree: &mut TreeHandle,
     kind: u32,
     rows: u64,
     ranges: &[OutRange],
     at: &mut u64,
 ) -> u32
-    ensures { Builds kind rows (map defined.range_from_c ranges.now) tree.old.kept.value tree.new.kept.value result at.new }
+    ensures { Builds kind rows (map defined.range_from_c ranges.now)
+        tree.old.kept.value tree.new.kept.value result at.new }
 {
     *at = 0;
     if let Some(whole) = tree.take(alloc) {

@@ -111,7 +111,8 @@ impl Walker {
     fn try_each(&mut self, tree: &Tree, calls: &mut [OutCall]) -> Result<Result<(), Worn>, Busy>
         requires { IsPassOf tree.now self.old.pass }
         ensures of { IsPassOf tree.now self.new.pass }
-        ensures tried { IsTriedEach tree.now (halted self.old) calls.old calls.new result (knows self.new) }
+        ensures tried { IsTriedEach tree.now
+            (halted self.old) calls.old calls.new result (knows self.new) }
         ensures once { TriedOnce self.old self.new }
         ensures walk { self.new.walk ≡ None }
     {
@@ -141,7 +142,8 @@ impl User {
         ensures common { common_of self.new ≡ common_of self.old }
         ensures chair { self.new.chair ≡ self.old.chair }
         ensures receipts { self.new.receipts ≡ self.old.receipts }
-        ensures tried { IsTriedEach (user_tree self.old) (paused self.old) calls.old calls.new result (known_to self.new) }
+        ensures tried { IsTriedEach (user_tree self.old)
+            (paused self.old) calls.old calls.new result (known_to self.new) }
         ensures once { TriedOnce self.old.walker self.new.walker }
         ensures walk { self.new.walker.walk ≡ None }
     {
@@ -152,7 +154,8 @@ impl User {
     #[tactic(auto, using(crate::proofs::CallLists::each_made, crate::proofs::CallLists::none_meant))]
     fn each_told(&mut self, calls: &mut [OutCall]) -> u32
         ensures common { common_of self.new ≡ common_of self.old }
-        ensures tried { TriesIf (defined.are_meant calls.old) calls.old calls.new result self.old self.new }
+        ensures tried { TriesIf
+            (defined.are_meant calls.old) calls.old calls.new result self.old self.new }
     {
         if !are_meant(calls) {
             return EINVAL;

@@ -8,7 +8,7 @@ ghost use Rattle.mt_tree.specs.Copies.{live_rows};
 ghost use Rattle.mt_c.specs.Calls.{IsAsked};
 ghost use Rattle.mt_c.specs.Copying.{Copied, FitsRows, IsCopyInRows, IsOpenedWith, LacksTree};
 
-use crate::handle::Handle;
+use crate::handle::TreeHandle;
 use crate::own_tree::OwnTree;
 use crate::told::{EALREADY, EBADF, EDOM, ENOMEM};
 use core::mem::replace_with;
@@ -21,39 +21,39 @@ use std::alloc::Global;
 use std::marker::Brand;
 use std::sync::ledger::Blank;
 
-/// An engine of this kind, with `rows` nodes, with a copy of well-formed nodes.
-fn engine_with(
+/// How many nodes a copy is to have, of a tree of which kind.
+#[derive(Drop)]
+struct Wanted {
     alloc: Global,
     kind: Kind,
-    src: &mut PlainRows,
     rows: u64,
-) -> Result<Engine<PlainRows>, NoMemory>
-    requires lawful { IsLawfulOf (sheet_in src.old).tree kind }
-    requires fits { FitsRows (live_rows (sheet_in src.old).tree) rows }
-    ensures engine { IfOk result (IsOpenedWith kind rows (map_by (sheet_in src.old).tree)) }
+}
+
+/// An engine of this kind, with so many nodes, with a copy of well-formed nodes.
+fn engine_with(wanted: &Wanted, src: &mut PlainRows) -> Result<Engine<PlainRows>, NoMemory>
+    requires lawful { IsLawfulOf (sheet_in src.old).tree wanted.now.kind }
+    requires fits { FitsRows (live_rows (sheet_in src.old).tree) wanted.now.rows }
+    ensures engine { IfOk result
+        (IsOpenedWith wanted.now.kind wanted.now.rows (map_by (sheet_in src.old).tree)) }
     ensures alone { IfOk result (λ engine. engine.sheet.shared ≡ false) }
     ensures rest { OnlyReads (sheet_in src.old) (sheet_in src.new) }
 {
-    let mut book = RowBook::new(alloc, rows)?;
-    let mut dst = PlainRows::of_width(alloc, width_of(kind), rows)?;
+    let mut book = RowBook::new(wanted.alloc, wanted.rows)?;
+    let mut dst = PlainRows::of_width(wanted.alloc, width_of(wanted.kind), wanted.rows)?;
     copy_into::<PlainRows, Brand>(Blank::new(1), src, &mut dst, &mut book);
-    Ok(Engine::new(dst, book, kind))
+    Ok(Engine::new(dst, book, wanted.kind))
 }
 
-/// A tree of this kind, with `rows` nodes, with a copy of well-formed nodes.
-fn copied(
-    alloc: Global,
-    kind: Kind,
-    src: &mut PlainRows,
-    rows: u64,
-) -> Result<Box<OwnTree>, NoMemory>
-    requires lawful { IsLawfulOf (sheet_in src.old).tree kind }
-    requires fits { FitsRows (live_rows (sheet_in src.old).tree) rows }
-    ensures tree { IfOk result (λ whole. IsOpenedWith kind rows (map_by (sheet_in src.old).tree) whole.value.engine) }
+/// A tree of this kind, with so many nodes, with a copy of well-formed nodes.
+fn copied(wanted: &Wanted, src: &mut PlainRows) -> Result<Box<OwnTree>, NoMemory>
+    requires lawful { IsLawfulOf (sheet_in src.old).tree wanted.now.kind }
+    requires fits { FitsRows (live_rows (sheet_in src.old).tree) wanted.now.rows }
+    ensures tree { IfOk result (λ whole. IsOpenedWith wanted.now.kind wanted.now.rows
+        (map_by (sheet_in src.old).tree) whole.value.engine) }
     ensures rest { OnlyReads (sheet_in src.old) (sheet_in src.new) }
 {
-    let engine = engine_with(alloc, kind, src, rows)?;
-    Ok(Box::new(alloc, OwnTree::begun(engine, kind))?)
+    let engine = engine_with(wanted, src)?;
+    Ok(Box::new(wanted.alloc, OwnTree::begun(engine, wanted.kind))?)
 }
 
 /// How many nodes there are: as many as are used at least.
@@ -85,29 +85,23 @@ pub fn fitted(
     requires lawful { IsLawfulOf (sheet_in src.old).tree kind }
     requires used { live_rows (sheet_in src.old).tree ≤ used }
     ensures fits { IfOk result (λ _. FitsRows used rows) }
-    ensures tree { IfOk result (λ whole. IsOpenedWith kind rows (map_by (sheet_in src.old).tree) whole.value.engine) }
+    ensures tree { IfOk result
+        (λ whole. IsOpenedWith kind rows (map_by (sheet_in src.old).tree) whole.value.engine) }
     ensures lacks { IfErr result (LacksTree used rows) }
     ensures rest { OnlyReads (sheet_in src.old) (sheet_in src.new) }
 {
     if !fits(used, rows) {
         return Err(EDOM);
     }
-    match copied(alloc, kind, src, rows) {
+    let wanted = Wanted { alloc, kind, rows };
+    match copied(&wanted, src) {
         Ok(whole) => Ok(whole),
         Err(NoMemory) => Err(ENOMEM),
     }
 }
 
-/// How many nodes a copy is to have, of a tree of which kind.
-#[derive(Drop)]
-struct Wanted {
-    alloc: Global,
-    kind: Kind,
-    rows: u64,
-}
-
 /// A copy of a tree, which is only read.
-#[tactic(auto, using(mt_tree::proofs::Forms::lawful_as, mt_tree::proofs::Forms::idle_as, mt_tree::proofs::Forms::high_as, mt_tree::proofs::Forms::live_as, crate::proofs::Reading::asked_as, crate::proofs::Copying::copy_in, crate::proofs::Copying::lacks_in))]
+#[tactic(auto, using(crate::proofs::Reading::put_together, crate::proofs::Copying::copy_in, crate::proofs::Copying::lacks_in))]
 fn copy_of(
     engine: Engine<PlainRows>,
     wanted: Wanted,
@@ -158,8 +152,14 @@ impl OwnTree {
 /// Opens a tree with the map of another, with `rows` nodes: at least as many as that has in use, and at most 65,504.
 #[tactic(auto, using(crate::proofs::Copying::copied_closed, crate::proofs::Copying::copied_busy))]
 #[unsafe(no_mangle)]
-pub extern "C" fn maple_copy(alloc: Global, tree: &mut Handle, copy: &mut Handle, rows: u64) -> u32
-    ensures { Copied rows tree.old.kept.value tree.new.kept.value copy.old.kept.value copy.new.kept.value result }
+pub extern "C" fn maple_copy(
+    alloc: Global,
+    tree: &mut TreeHandle,
+    copy: &mut TreeHandle,
+    rows: u64,
+) -> u32
+    ensures { Copied rows tree.old.kept.value
+        tree.new.kept.value copy.old.kept.value copy.new.kept.value result }
 {
     let Some(mut whole) = tree.take(alloc) else {
         return EBADF;

@@ -100,7 +100,8 @@ impl User {
         ensures common { common_of self.new ≡ common_of self.old }
         ensures chair { self.new.chair ≡ self.old.chair }
         ensures receipts { self.new.receipts ≡ self.old.receipts }
-        ensures tried { IsTriedCopy shape (user_tree self.old) self.old.walker result self.new.walker }
+        ensures tried { IsTriedCopy shape
+            (user_tree self.old) self.old.walker result self.new.walker }
         ensures paused { IsOnNoWalk self.new.walker }
     {
         self.walker.try_dup(&self.common.tree, alloc, shape)
@@ -146,9 +147,12 @@ impl User {
         ensures common { common_of self.new ≡ common_of self.old }
         ensures chair { self.new.chair ≡ self.old.chair }
         ensures paused { IsOnNoWalk self.new.walker }
-        ensures copied { IfOk result
-            (λ whole. HasCopied (shape_for (opened (user_tree self.old)).kind rows passes calls) (Some whole.value) 0 self.old self.new) }
-        ensures lacks { IfErr result (λ status. HasCopied (shape_for (opened (user_tree self.old)).kind rows passes calls) None status self.old self.new) }
+        ensures copied { IfOk result (λ whole. HasCopied
+            (shape_for (opened (user_tree self.old)).kind rows passes calls)
+            (Some whole.value) 0 self.old self.new) }
+        ensures lacks { IfErr result (λ status. HasCopied
+            (shape_for (opened (user_tree self.old)).kind rows passes calls)
+            None status self.old self.new) }
     {
         let shape = self.shape_of(rows, passes, calls);
         let (tree, passes) = match self.dup_told(alloc, shape) {
@@ -164,7 +168,7 @@ impl User {
 
 /// Opens a shared tree with the map of another, with `rows` nodes, for `users` users at a time and `calls` calls, and its first
 /// user, if the other's lock is free.
-#[tactic(auto, using(crate::proofs::Duplicating::copied_closed, crate::proofs::Duplicating::copied_busy, crate::proofs::Duplicating::copied_made, crate::proofs::Duplicating::copied_none))]
+#[tactic(auto, using(crate::proofs::Duplicating::copied_so))]
 #[unsafe(no_mangle)]
 pub extern "C" fn maple_shared_copy(
     alloc: Global,

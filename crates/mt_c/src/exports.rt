@@ -5,7 +5,7 @@ ghost use Rattle.mt_base.specs.declared.calls.Query.TheVariants.{Load, Find, Nex
 ghost use Rattle.mt_c.specs.Calls.{CalledAlone, CalledWord, CalledRange, AnswersQuery, EntryTold};
 
 use crate::calls::{ask, call, entry};
-use crate::handle::Handle;
+use crate::handle::TreeHandle;
 use crate::told::OutRange;
 use mt_base::{Call, Query};
 use std::alloc::Global;
@@ -15,13 +15,14 @@ use std::alloc::Global;
 #[unsafe(no_mangle)]
 pub extern "C" fn maple_store(
     alloc: Global,
-    tree: &mut Handle,
+    tree: &mut TreeHandle,
     first: u64,
     last: u64,
     entry: u64,
     old: &mut u64,
 ) -> u32
-    ensures { CalledWord (Store first last entry) tree.old.kept.value tree.new.kept.value result old.new }
+    ensures { CalledWord
+        (Store first last entry) tree.old.kept.value tree.new.kept.value result old.new }
 {
     let told = call(alloc, tree, &Call::Store { first, last, entry });
     *old = told.word;
@@ -33,13 +34,14 @@ pub extern "C" fn maple_store(
 #[unsafe(no_mangle)]
 pub extern "C" fn maple_store_pre(
     alloc: Global,
-    tree: &mut Handle,
+    tree: &mut TreeHandle,
     first: u64,
     last: u64,
     entry: u64,
     old: &mut u64,
 ) -> u32
-    ensures { CalledWord (StorePre first last entry) tree.old.kept.value tree.new.kept.value result old.new }
+    ensures { CalledWord
+        (StorePre first last entry) tree.old.kept.value tree.new.kept.value result old.new }
 {
     let told = call(alloc, tree, &Call::StorePre { first, last, entry });
     *old = told.word;
@@ -51,7 +53,7 @@ pub extern "C" fn maple_store_pre(
 #[unsafe(no_mangle)]
 pub extern "C" fn maple_insert(
     alloc: Global,
-    tree: &mut Handle,
+    tree: &mut TreeHandle,
     first: u64,
     last: u64,
     entry: u64,
@@ -67,7 +69,7 @@ pub extern "C" fn maple_insert(
 #[unsafe(no_mangle)]
 pub extern "C" fn maple_erase(
     alloc: Global,
-    tree: &mut Handle,
+    tree: &mut TreeHandle,
     index: u64,
     was: &mut OutRange,
 ) -> u32
@@ -83,14 +85,15 @@ pub extern "C" fn maple_erase(
 #[unsafe(no_mangle)]
 pub extern "C" fn maple_alloc(
     alloc: Global,
-    tree: &mut Handle,
+    tree: &mut TreeHandle,
     size: u64,
     min: u64,
     max: u64,
     entry: u64,
     start: &mut u64,
 ) -> u32
-    ensures { CalledWord (Alloc size min max entry) tree.old.kept.value tree.new.kept.value result start.new }
+    ensures { CalledWord
+        (Alloc size min max entry) tree.old.kept.value tree.new.kept.value result start.new }
 {
     let told = call(
         alloc,
@@ -111,14 +114,15 @@ pub extern "C" fn maple_alloc(
 #[unsafe(no_mangle)]
 pub extern "C" fn maple_ralloc(
     alloc: Global,
-    tree: &mut Handle,
+    tree: &mut TreeHandle,
     size: u64,
     min: u64,
     max: u64,
     entry: u64,
     start: &mut u64,
 ) -> u32
-    ensures { CalledWord (Ralloc size min max entry) tree.old.kept.value tree.new.kept.value result start.new }
+    ensures { CalledWord
+        (Ralloc size min max entry) tree.old.kept.value tree.new.kept.value result start.new }
 {
     let told = call(
         alloc,
@@ -139,13 +143,14 @@ pub extern "C" fn maple_ralloc(
 #[unsafe(no_mangle)]
 pub extern "C" fn maple_gap(
     alloc: Global,
-    tree: &mut Handle,
+    tree: &mut TreeHandle,
     size: u64,
     min: u64,
     max: u64,
     start: &mut u64,
 ) -> u32
-    ensures { CalledWord (Gap size min max) tree.old.kept.value tree.new.kept.value result start.new }
+    ensures { CalledWord
+        (Gap size min max) tree.old.kept.value tree.new.kept.value result start.new }
 {
     let told = call(alloc, tree, &Call::Gap { size, min, max });
     *start = told.word;
@@ -157,13 +162,14 @@ pub extern "C" fn maple_gap(
 #[unsafe(no_mangle)]
 pub extern "C" fn maple_rgap(
     alloc: Global,
-    tree: &mut Handle,
+    tree: &mut TreeHandle,
     size: u64,
     min: u64,
     max: u64,
     start: &mut u64,
 ) -> u32
-    ensures { CalledWord (Rgap size min max) tree.old.kept.value tree.new.kept.value result start.new }
+    ensures { CalledWord
+        (Rgap size min max) tree.old.kept.value tree.new.kept.value result start.new }
 {
     let told = call(alloc, tree, &Call::Rgap { size, min, max });
     *start = told.word;
@@ -173,7 +179,7 @@ pub extern "C" fn maple_rgap(
 /// Removes every range.
 #[tactic(auto, using(crate::proofs::Telling::told_alone))]
 #[unsafe(no_mangle)]
-pub extern "C" fn maple_clear(alloc: Global, tree: &mut Handle) -> u32
+pub extern "C" fn maple_clear(alloc: Global, tree: &mut TreeHandle) -> u32
     ensures { CalledAlone Clear tree.old.kept.value tree.new.kept.value result }
 {
     let told = call(alloc, tree, &Call::Clear);
@@ -184,7 +190,7 @@ pub extern "C" fn maple_clear(alloc: Global, tree: &mut Handle) -> u32
 #[unsafe(no_mangle)]
 pub extern "C" fn maple_load(
     alloc: Global,
-    tree: &mut Handle,
+    tree: &mut TreeHandle,
     index: u64,
     range: &mut OutRange,
 ) -> u32
@@ -195,7 +201,7 @@ pub extern "C" fn maple_load(
 
 /// The entry at `index`, and 0 if there is none or the tree is closed.
 #[unsafe(no_mangle)]
-pub extern "C" fn maple_entry(alloc: Global, tree: &mut Handle, index: u64) -> u64
+pub extern "C" fn maple_entry(alloc: Global, tree: &mut TreeHandle, index: u64) -> u64
     ensures { EntryTold index tree.old.kept.value tree.new.kept.value result }
 {
     entry(alloc, tree, index)
@@ -205,12 +211,13 @@ pub extern "C" fn maple_entry(alloc: Global, tree: &mut Handle, index: u64) -> u
 #[unsafe(no_mangle)]
 pub extern "C" fn maple_find(
     alloc: Global,
-    tree: &mut Handle,
+    tree: &mut TreeHandle,
     index: u64,
     max: u64,
     range: &mut OutRange,
 ) -> u32
-    ensures { AnswersQuery (Find index max) tree.old.kept.value tree.new.kept.value result range.new }
+    ensures { AnswersQuery
+        (Find index max) tree.old.kept.value tree.new.kept.value result range.new }
 {
     ask(alloc, tree, &Query::Find { index, max }, range)
 }
@@ -219,12 +226,13 @@ pub extern "C" fn maple_find(
 #[unsafe(no_mangle)]
 pub extern "C" fn maple_next(
     alloc: Global,
-    tree: &mut Handle,
+    tree: &mut TreeHandle,
     index: u64,
     max: u64,
     range: &mut OutRange,
 ) -> u32
-    ensures { AnswersQuery (Next index max) tree.old.kept.value tree.new.kept.value result range.new }
+    ensures { AnswersQuery
+        (Next index max) tree.old.kept.value tree.new.kept.value result range.new }
 {
     ask(alloc, tree, &Query::Next { index, max }, range)
 }
@@ -233,12 +241,13 @@ pub extern "C" fn maple_next(
 #[unsafe(no_mangle)]
 pub extern "C" fn maple_prev(
     alloc: Global,
-    tree: &mut Handle,
+    tree: &mut TreeHandle,
     index: u64,
     min: u64,
     range: &mut OutRange,
 ) -> u32
-    ensures { AnswersQuery (Prev index min) tree.old.kept.value tree.new.kept.value result range.new }
+    ensures { AnswersQuery
+        (Prev index min) tree.old.kept.value tree.new.kept.value result range.new }
 {
     ask(alloc, tree, &Query::Prev { index, min }, range)
 }
@@ -247,12 +256,13 @@ pub extern "C" fn maple_prev(
 #[unsafe(no_mangle)]
 pub extern "C" fn maple_rfind(
     alloc: Global,
-    tree: &mut Handle,
+    tree: &mut TreeHandle,
     index: u64,
     min: u64,
     range: &mut OutRange,
 ) -> u32
-    ensures { AnswersQuery (Rfind index min) tree.old.kept.value tree.new.kept.value result range.new }
+    ensures { AnswersQuery
+        (Rfind index min) tree.old.kept.value tree.new.kept.value result range.new }
 {
     ask(alloc, tree, &Query::Rfind { index, min }, range)
 }

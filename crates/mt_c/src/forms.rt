@@ -9,7 +9,7 @@ ghost use Rattle.mt_c.specs.Calls.{IsAsked};
 ghost use Rattle.mt_c.specs.Copying as defined;
 ghost use Rattle.mt_c.specs.Copying.{Checked};
 
-use crate::handle::Handle;
+use crate::handle::TreeHandle;
 use crate::own_tree::OwnTree;
 use crate::told::{EBADF, EBADMSG};
 use core::mem::replace_with;
@@ -61,7 +61,7 @@ fn check_rows(rows: &mut PlainRows, kind: Kind) -> Result<Form, Fault>
 }
 
 /// As `check_rows`, of an engine's tree, which is only read.
-#[tactic(auto, using(mt_tree::proofs::Forms::lawful_as, mt_tree::proofs::Forms::idle_as, mt_tree::proofs::Forms::high_as, crate::proofs::Reading::asked_as))]
+#[tactic(auto, using(crate::proofs::Reading::put_together))]
 fn check_of(engine: Engine<PlainRows>, kind: Kind) -> (Engine<PlainRows>, Result<Form, Fault>)
     requires { kind ≡ engine.kind }
     ensures rest { IsAsked engine result.0 }
@@ -89,7 +89,8 @@ impl OwnTree {
     fn check(&mut self) -> Result<Form, Fault>
         ensures rest { IsAsked self.old.engine self.new.engine }
         ensures lawful { IsLawfulOf self.old.engine.sheet.tree self.old.engine.kind }
-        ensures form { result ≡ Ok (form_of (tree_as self.old.engine.kind self.old.engine.sheet.tree)) }
+        ensures form { result
+            ≡ Ok (form_of (tree_as self.old.engine.kind self.old.engine.sheet.tree)) }
     {
         check_in(&mut self.engine, self.kind)
     }
@@ -98,7 +99,7 @@ impl OwnTree {
 /// Tests the words of a tree, and returns its form. They are well-formed: any other answer means that something else wrote over
 /// them.
 #[unsafe(no_mangle)]
-pub extern "C" fn maple_check(alloc: Global, tree: &mut Handle, form: &mut OutForm) -> u32
+pub extern "C" fn maple_check(alloc: Global, tree: &mut TreeHandle, form: &mut OutForm) -> u32
     ensures { Checked tree.old.kept.value tree.new.kept.value result form.new }
 {
     let Some(mut whole) = tree.take(alloc) else {

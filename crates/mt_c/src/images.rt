@@ -8,7 +8,7 @@ ghost use Rattle.mt_c.specs.Copying.{OpensHandle};
 ghost use Rattle.mt_c.specs.Images.{Imaged, IsOfImage, LacksImage};
 
 use crate::copies::{fitted, used_in};
-use crate::handle::Handle;
+use crate::handle::TreeHandle;
 use crate::own_tree::OwnTree;
 use crate::replay::put;
 use crate::told::{EALREADY, EBADF, EBADMSG, ENOMEM, ERANGE};
@@ -35,7 +35,8 @@ fn image_of(
 fn image_in(engine: &mut Engine<PlainRows>, by: (Global, Kind)) -> Result<Vec<u8>, NoMemory>
     requires { by.1 ≡ engine.old.kind }
     ensures rest { IsAsked engine.old engine.new }
-    ensures image { IfOk result (λ bytes. IsImageOf engine.old.kind engine.old.sheet.tree bytes.items) }
+    ensures image { IfOk result
+        (λ bytes. IsImageOf engine.old.kind engine.old.sheet.tree bytes.items) }
 {
     replace_with(engine, by, image_of)
 }
@@ -44,7 +45,8 @@ impl OwnTree {
     /// An image of its words.
     fn image(&mut self, alloc: Global) -> Result<Vec<u8>, NoMemory>
         ensures rest { IsAsked self.old.engine self.new.engine }
-        ensures image { IfOk result (λ bytes. IsImageOf self.old.engine.kind self.old.engine.sheet.tree bytes.items) }
+        ensures image { IfOk result
+            (λ bytes. IsImageOf self.old.engine.kind self.old.engine.sheet.tree bytes.items) }
     {
         image_in(&mut self.engine, (alloc, self.kind))
     }
@@ -78,11 +80,11 @@ fn of_image(alloc: Global, bytes: &[u8], rows: u64) -> Result<Box<OwnTree>, u32>
 }
 
 /// Writes the image of a tree to `out`. `used` is how many bytes that has, even if `out` is too short for it.
-#[tactic(auto, using(crate::proofs::ImagesOpened::imaged_closed, crate::proofs::ImagesOpened::imaged_put, crate::proofs::ImagesOpened::imaged_short, crate::proofs::ImagesOpened::imaged_none))]
+#[tactic(auto, using(crate::proofs::ImagesOpened::imaged_so))]
 #[unsafe(no_mangle)]
 pub extern "C" fn maple_image(
     alloc: Global,
-    tree: &mut Handle,
+    tree: &mut TreeHandle,
     out: &mut [u8],
     used: &mut usize,
 ) -> u32
@@ -106,8 +108,14 @@ pub extern "C" fn maple_image(
 /// Opens a tree with the map of an image, with `rows` nodes: at least as many as the image has, and at most 65,504.
 #[tactic(auto, using(crate::proofs::Copying::image_busy, crate::proofs::Copying::image_opened, crate::proofs::Copying::image_none))]
 #[unsafe(no_mangle)]
-pub extern "C" fn maple_open_image(alloc: Global, tree: &mut Handle, bytes: &[u8], rows: u64) -> u32
-    ensures { OpensHandle (IsOfImage bytes.now rows) (LacksImage bytes.now rows) tree.old.kept.value tree.new.kept.value result }
+pub extern "C" fn maple_open_image(
+    alloc: Global,
+    tree: &mut TreeHandle,
+    bytes: &[u8],
+    rows: u64,
+) -> u32
+    ensures { OpensHandle (IsOfImage bytes.now rows)
+        (LacksImage bytes.now rows) tree.old.kept.value tree.new.kept.value result }
 {
     if let Some(whole) = tree.take(alloc) {
         tree.put(whole);

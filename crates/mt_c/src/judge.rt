@@ -16,7 +16,8 @@ fn counted(alloc: Global, log: &[u8], text: &[u8], rows: u64) -> Result<(u64, u6
     requires rows { HaveRows rows }
     requires bytes { length log.now ≤ most_bytes }
     ensures ok { IfOk result (λ counts. IsVerified rows log.now text.now counts.0 counts.1) }
-    ensures err { IfErr result (λ status. ((status ≡ 74) × IsNoRun rows log.now text.now) ⊎ ((status ≡ 22) × IsErr (log_of log.now)) ⊎ (status ≡ 12)) }
+    ensures err { IfErr result (λ status. ((status ≡ 74) × IsNoRun rows log.now text.now)
+        ⊎ ((status ≡ 22) × IsErr (log_of log.now)) ⊎ (status ≡ 12)) }
 {
     let log = match read_log(alloc, log) {
         Ok(log) => log,
@@ -43,7 +44,8 @@ pub extern "C" fn maple_verify(
     calls: &mut u64,
     reads: &mut u64,
 ) -> u32
-    ensures within { (result ≡ 0) ⊎ (result ≡ 12) ⊎ (result ≡ 22) ⊎ (result ≡ 74) ⊎ IsUnfit rows log.now result }
+    ensures within { (result ≡ 0)
+        ⊎ (result ≡ 12) ⊎ (result ≡ 22) ⊎ (result ≡ 74) ⊎ IsUnfit rows log.now result }
     ensures verified { result ≡ 0 → IsVerified rows log.now text.now calls.new reads.new }
     ensures refused { result ≡ 74 → IsNoRun rows log.now text.now }
     ensures bad_log { result ≡ 22 → IsErr (log_of log.now) }

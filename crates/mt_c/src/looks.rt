@@ -4,7 +4,7 @@ ghost use Rattle.std.specs.Prelude.{◌≡◌};
 ghost use Rattle.mt_tree.specs.Looks.{IsFormBehind, IsOldest, IsStatsOf};
 ghost use Rattle.mt_tree.specs.Trees.{IsPassOf};
 ghost use Rattle.mt_c.specs.Looks as defined;
-ghost use Rattle.mt_c.specs.Looks.{HasFound, IsFoundIn, SharedChecked, SharedOldest, SharedStats, TellsCalls, TellsForm, TellsStats, when_found};
+ghost use Rattle.mt_c.specs.Looks.{HasFoundOrTaken, IsFoundIn, SharedChecked, SharedOldest, SharedStats, TellsCalls, TellsForm, TellsStats, when_found};
 ghost use Rattle.mt_c.specs.Users.{common_of, known_to, rested, user_tree};
 ghost use Rattle.mt_c.specs.Walkers.{IsPaused, TriedShut, knows, shut};
 
@@ -66,7 +66,8 @@ impl User {
         ensures common { common_of self.new ≡ common_of self.old }
         ensures chair { self.new.chair ≡ self.old.chair }
         ensures receipts { self.new.receipts ≡ self.old.receipts }
-        ensures found { IsFoundIn IsFormBehind (user_tree self.old) (rested self.old) result (known_to self.new) }
+        ensures found { IsFoundIn IsFormBehind
+            (user_tree self.old) (rested self.old) result (known_to self.new) }
         ensures once { TriedShut self.old.walker self.new.walker }
         ensures paused { IsPaused self.new.walker }
     {
@@ -78,7 +79,8 @@ impl User {
         ensures common { common_of self.new ≡ common_of self.old }
         ensures chair { self.new.chair ≡ self.old.chair }
         ensures receipts { self.new.receipts ≡ self.old.receipts }
-        ensures found { IsFoundIn IsStatsOf (user_tree self.old) (rested self.old) result (known_to self.new) }
+        ensures found { IsFoundIn IsStatsOf
+            (user_tree self.old) (rested self.old) result (known_to self.new) }
         ensures once { TriedShut self.old.walker self.new.walker }
         ensures paused { IsPaused self.new.walker }
     {
@@ -90,7 +92,8 @@ impl User {
         ensures common { common_of self.new ≡ common_of self.old }
         ensures chair { self.new.chair ≡ self.old.chair }
         ensures receipts { self.new.receipts ≡ self.old.receipts }
-        ensures found { IsFoundIn IsOldest (user_tree self.old) (rested self.old) result (known_to self.new) }
+        ensures found { IsFoundIn IsOldest
+            (user_tree self.old) (rested self.old) result (known_to self.new) }
         ensures once { TriedShut self.old.walker self.new.walker }
         ensures paused { IsPaused self.new.walker }
     {
@@ -168,7 +171,8 @@ impl User {
     #[tactic(auto, using(crate::proofs::Looking::form_told))]
     fn check_told(&mut self) -> (OutForm, u32)
         ensures common { common_of self.new ≡ common_of self.old }
-        ensures found { HasFound IsFormBehind (TellsForm result.1 result.0) self.old self.new }
+        ensures found { HasFoundOrTaken IsFormBehind
+            (TellsForm result.1 result.0) self.old self.new }
     {
         let found = self.try_check();
         form_told(found, &mut self.receipts)
@@ -178,7 +182,7 @@ impl User {
     #[tactic(auto, using(crate::proofs::Looking::stats_told))]
     fn stats_told(&mut self) -> (OutStats, u32)
         ensures common { common_of self.new ≡ common_of self.old }
-        ensures found { HasFound IsStatsOf (TellsStats result.1 result.0) self.old self.new }
+        ensures found { HasFoundOrTaken IsStatsOf (TellsStats result.1 result.0) self.old self.new }
     {
         let found = self.try_stats();
         stats_told(found, &mut self.receipts)
@@ -188,7 +192,7 @@ impl User {
     #[tactic(auto, using(crate::proofs::Looking::calls_told))]
     fn oldest_told(&mut self) -> (u64, u32)
         ensures common { common_of self.new ≡ common_of self.old }
-        ensures found { HasFound IsOldest (TellsCalls result.1 result.0) self.old self.new }
+        ensures found { HasFoundOrTaken IsOldest (TellsCalls result.1 result.0) self.old self.new }
     {
         let found = self.try_oldest();
         calls_told(found, &mut self.receipts)

@@ -1,14 +1,13 @@
 //! Many look-ups and many steps of a walk in one call.
 
-ghost use Rattle.std.specs.Prelude.{◌≡◌, length, map, take};
-ghost use Rattle.mt_base.specs.Width.{greatest};
+ghost use Rattle.std.specs.Prelude.{◌≡◌, length, take};
 ghost use Rattle.mt_rows.specs.Publish.{map_by};
-ghost use Rattle.mt_engine.specs.Batches.{entries_at, put_first, steps_from};
+ghost use Rattle.mt_engine.specs.Batches.{PutSteps, entries_at, put_first, steps_by};
 ghost use Rattle.mt_engine.specs.RangeWalks.{WalksFrom};
 ghost use Rattle.mt_c.specs.Calls.{IsAsked, range_out};
 ghost use Rattle.mt_c.specs.Many.{HasSteppedMany, LoadedMany, SteppedMany};
 
-use crate::handle::Handle;
+use crate::handle::TreeHandle;
 use crate::own_tree::OwnTree;
 use crate::steps::OutWalk;
 use crate::told::{EBADF, OutRange, many_status};
@@ -19,12 +18,9 @@ use std::alloc::Global;
 /// Puts the ranges that a walk finds next into the places, as many as there are places for, and returns how many.
 fn put_steps(engine: &mut Engine<PlainRows>, walk: &mut RangeWalk, ranges: &mut [OutRange]) -> usize
     requires { WalksFrom engine.old.sheet.tree walk.old }
-    ensures ranges { ranges.new ≡ put_first (map range_out
-        (steps_from (map_by engine.old.sheet.tree) (greatest engine.old.sheet.tree.table.width) (length ranges.old) walk.old.next).found) ranges.old }
-    ensures count { result ≡ length
-        (steps_from (map_by engine.old.sheet.tree) (greatest engine.old.sheet.tree.table.width) (length ranges.old) walk.old.next).found }
-    ensures next { walk.new.next
-        ≡ (steps_from (map_by engine.old.sheet.tree) (greatest engine.old.sheet.tree.table.width) (length ranges.old) walk.old.next).next }
+    ensures put { PutSteps range_out
+        (steps_by engine.old.sheet.tree (length ranges.old) walk.old.next)
+        ranges.old ranges.new result walk.new.next }
     ensures walk { WalksFrom engine.new.sheet.tree walk.new }
     ensures rest { IsAsked engine.old engine.new }
 {
@@ -34,7 +30,8 @@ fn put_steps(engine: &mut Engine<PlainRows>, walk: &mut RangeWalk, ranges: &mut 
 impl OwnTree {
     /// The entries at these indexes, as far as there are places: 0 if an index lies in a hole. The place of the last walk is kept.
     fn load_many(&mut self, indexes: &[u64], entries: &mut [u64])
-        ensures entries { entries.new ≡ put_first (entries_at (map_by self.old.engine.sheet.tree) (take (length entries.old) indexes.now)) entries.old }
+        ensures entries { entries.new ≡ put_first (entries_at (map_by self.old.engine.sheet.tree)
+            (take (length entries.old) indexes.now)) entries.old }
         ensures rest { IsAsked self.old.engine self.new.engine }
         ensures place { self.new.place ≡ self.old.place }
     {
@@ -59,11 +56,12 @@ impl OwnTree {
 #[unsafe(no_mangle)]
 pub extern "C" fn maple_load_many(
     alloc: Global,
-    tree: &mut Handle,
+    tree: &mut TreeHandle,
     indexes: &[u64],
     entries: &mut [u64],
 ) -> u32
-    ensures { LoadedMany indexes.now tree.old.kept.value tree.new.kept.value result entries.old entries.new }
+    ensures { LoadedMany
+        indexes.now tree.old.kept.value tree.new.kept.value result entries.old entries.new }
 {
     let Some(mut whole) = tree.take(alloc) else {
         return EBADF;
@@ -78,12 +76,13 @@ pub extern "C" fn maple_load_many(
 #[unsafe(no_mangle)]
 pub extern "C" fn maple_step_many(
     alloc: Global,
-    tree: &mut Handle,
+    tree: &mut TreeHandle,
     walk: &mut OutWalk,
     ranges: &mut [OutRange],
     count: &mut usize,
 ) -> u32
-    ensures { SteppedMany walk.old tree.old.kept.value tree.new.kept.value result ranges.old ranges.new count.new walk.new }
+    ensures { SteppedMany walk.old tree.old.kept.value
+        tree.new.kept.value result ranges.old ranges.new count.new walk.new }
 {
     *count = 0;
     let Some(mut whole) = tree.take(alloc) else {

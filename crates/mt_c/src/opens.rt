@@ -6,7 +6,7 @@ ghost use Rattle.mt_image.specs.Bytes.{kind_code};
 ghost use Rattle.mt_base.specs.Width.{most_rows};
 ghost use Rattle.mt_c.specs.Opening.{IsNewEngine, Opened, OpenedNew};
 
-use crate::handle::Handle;
+use crate::handle::TreeHandle;
 use crate::own_tree::OwnTree;
 use crate::told::{EALREADY, EDOM, EINVAL, ENOMEM};
 use mt_base::{Kind, MOST_ROWS, NoMemory};
@@ -15,7 +15,8 @@ use std::alloc::Global;
 /// The kind of a code.
 #[tactic(auto, using(crate::proofs::KindCodes::no_kind))]
 pub fn kind_of(code: u32) -> Option<Kind>
-    ensures { MatchOption result ((kind : Kind) → kind_code kind ≢ code) (λ kind. kind_code kind ≡ code) }
+    ensures { MatchOption result
+        ((kind : Kind) → kind_code kind ≢ code) (λ kind. kind_code kind ≡ code) }
 {
     match code {
         0 => Some(Kind::Range),
@@ -35,24 +36,24 @@ fn boxed(alloc: Global, kind: Kind, rows: u64) -> Result<Box<OwnTree>, NoMemory>
 }
 
 /// What an open of a closed tree makes, and the number that C gets.
-fn opened(alloc: Global, code: u32, rows: u64) -> (Handle, u32)
+fn opened(alloc: Global, code: u32, rows: u64) -> (TreeHandle, u32)
     ensures { OpenedNew code rows result.0.kept.value result.1 }
 {
     let Some(kind) = kind_of(code) else {
-        return (Handle::closed(), EINVAL);
+        return (TreeHandle::closed(), EINVAL);
     };
     if rows > MOST_ROWS {
-        return (Handle::closed(), EDOM);
+        return (TreeHandle::closed(), EDOM);
     }
     match boxed(alloc, kind, rows) {
-        Ok(whole) => (Handle::of(whole), 0),
-        Err(NoMemory) => (Handle::closed(), ENOMEM),
+        Ok(whole) => (TreeHandle::of(whole), 0),
+        Err(NoMemory) => (TreeHandle::closed(), ENOMEM),
     }
 }
 
 /// Opens an empty tree of the kind with this code, with `rows` nodes, at most 65,504.
 #[unsafe(no_mangle)]
-pub extern "C" fn maple_open(alloc: Global, tree: &mut Handle, kind: u32, rows: u64) -> u32
+pub extern "C" fn maple_open(alloc: Global, tree: &mut TreeHandle, kind: u32, rows: u64) -> u32
     ensures { Opened kind rows tree.old.kept.value tree.new.kept.value result }
 {
     if let Some(whole) = tree.take(alloc) {
@@ -66,7 +67,7 @@ pub extern "C" fn maple_open(alloc: Global, tree: &mut Handle, kind: u32, rows: 
 
 /// Closes a tree: its memory is given back. One that is closed stays so.
 #[unsafe(no_mangle)]
-pub extern "C" fn maple_close(alloc: Global, tree: &mut Handle)
+pub extern "C" fn maple_close(alloc: Global, tree: &mut TreeHandle)
     ensures { tree.new.kept.value ≡ None }
 {
     drop(tree.take(alloc));

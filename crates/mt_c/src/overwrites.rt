@@ -5,7 +5,7 @@ ghost use Rattle.mt_tree.specs.Overwrites.{TellsMet, ranges_met};
 ghost use Rattle.mt_c.specs.Calls.{IsAsked, range_out};
 ghost use Rattle.mt_c.specs.Overwrites.{StoredOver, StoresOver};
 
-use crate::handle::Handle;
+use crate::handle::TreeHandle;
 use crate::own_tree::OwnTree;
 use crate::told::{EBADF, OutRange, out_of, status_of, word_of};
 use mt_base::{Call, Range, Reply};
@@ -23,7 +23,8 @@ impl RangePlace for OutRange {
 impl OwnTree {
     /// Writes what a store over `first` to `last` meets, and returns how many ranges these are.
     fn tell_met(&mut self, first: u64, last: u64, met: &mut [OutRange]) -> u64
-        ensures tells { TellsMet range_out (ranges_met (map_by self.old.engine.sheet.tree) first last) met.old met.new result }
+        ensures tells { TellsMet range_out
+            (ranges_met (map_by self.old.engine.sheet.tree) first last) met.old met.new result }
         ensures rest { IsAsked self.old.engine self.new.engine }
     {
         tell_met(&mut self.engine, first, last, met)
@@ -52,7 +53,7 @@ impl OwnTree {
 #[unsafe(no_mangle)]
 pub extern "C" fn maple_store_over(
     alloc: Global,
-    tree: &mut Handle,
+    tree: &mut TreeHandle,
     first: u64,
     last: u64,
     entry: u64,
@@ -60,7 +61,8 @@ pub extern "C" fn maple_store_over(
     count: &mut u64,
     old: &mut u64,
 ) -> u32
-    ensures { StoredOver first last entry met.old met.new count.new tree.old.kept.value tree.new.kept.value result old.new }
+    ensures { StoredOver first last entry
+        met.old met.new count.new tree.old.kept.value tree.new.kept.value result old.new }
 {
     let Some(mut whole) = tree.take(alloc) else {
         *count = 0;

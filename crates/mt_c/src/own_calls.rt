@@ -54,7 +54,8 @@ impl OwnTree {
     /// Makes one call; none where the tree has had all its calls. `after` is how many ranges there are after it, if that is
     /// known.
     pub fn act_counted(&mut self, call: &Call, after: Option<u64>) -> Option<Reply>
-        requires { IfSome after (λ n. n ≡ length (acted self.old.engine.kind (map_by self.old.engine.sheet.tree) call.now).0) }
+        requires { IfSome after (λ n. n ≡ length
+            (acted self.old.engine.kind (map_by self.old.engine.sheet.tree) call.now).0) }
         ensures { MadeOrSpent self.old.engine self.new.engine call.now result }
     {
         if self.calls >= MOST_CALLS {

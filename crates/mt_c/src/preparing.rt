@@ -4,7 +4,7 @@ ghost use Rattle.std.specs.Prelude.{◌≡◌};
 ghost use Rattle.mt_base.specs.declared.calls.Call.TheVariants.{StorePre};
 ghost use Rattle.mt_c.specs.Preparing.{Prepared, PreCalled, pre_status, pre_word};
 
-use crate::handle::Handle;
+use crate::handle::TreeHandle;
 use crate::told::{EBADF, ENOMEM, status_of, word_of};
 use mt_base::Reply;
 use std::alloc::Global;
@@ -31,7 +31,7 @@ pub fn pre_word(made: Option<Option<Reply>>) -> u64
 
 /// Makes a tree ready for a store, if the nodes that no section holds are enough. It is no call of the tree.
 #[unsafe(no_mangle)]
-pub extern "C" fn maple_preallocate(alloc: Global, tree: &mut Handle) -> u32
+pub extern "C" fn maple_preallocate(alloc: Global, tree: &mut TreeHandle) -> u32
     ensures { Prepared tree.old.kept.value tree.new.kept.value result }
 {
     let Some(mut whole) = tree.take(alloc) else {
@@ -47,13 +47,14 @@ pub extern "C" fn maple_preallocate(alloc: Global, tree: &mut Handle) -> u32
 #[unsafe(no_mangle)]
 pub extern "C" fn maple_store_prealloc(
     alloc: Global,
-    tree: &mut Handle,
+    tree: &mut TreeHandle,
     first: u64,
     last: u64,
     entry: u64,
     old: &mut u64,
 ) -> u32
-    ensures { PreCalled (StorePre first last entry) tree.old.kept.value tree.new.kept.value result old.new }
+    ensures { PreCalled (StorePre first last entry)
+        tree.old.kept.value tree.new.kept.value result old.new }
 {
     let Some(mut whole) = tree.take(alloc) else {
         *old = 0;

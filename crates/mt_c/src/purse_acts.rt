@@ -18,7 +18,8 @@ impl Common {
         requires { IsChairAtPurse self.now chair.old }
         ensures chair { IsChairAtPurse self.now chair.new }
         ensures cuts { cuts_of chair.new ≡ cuts_of chair.old + 1 }
-        ensures passes { IfOk result (λ taken. All (IsSparePass self.now.tree) taken.value.passes.items) }
+        ensures passes { IfOk result
+            (λ taken. All (IsSparePass self.now.tree) taken.value.passes.items) }
         ensures taken { IfOk result (λ taken. HasPurse self.now taken.took taken.seat) }
         ensures took { IfOk result (λ taken. taken.took.value ≡ taken.value) }
         ensures taken_cuts { IfOk result (λ taken. taken.seat.me.0.cuts ≡ cuts_of chair.new) }
@@ -31,7 +32,8 @@ impl Common {
     pub fn give(&self, taken: Taken<Purse, Tree>) -> Given<Purse, Tree>
         requires taken { HasPurse self.now taken.took taken.seat }
         requires passes { All (IsSparePass self.now.tree) taken.value.passes.items }
-        ensures given { WasGiven self.now taken.seat.me.0.cuts (known_in taken.took.value) (known_in taken.value) result }
+        ensures given { WasGiven self.now taken.seat.me.0.cuts
+            (known_in taken.took.value) (known_in taken.value) result }
         ensures took { result.took ≡ taken.took }
         ensures gave { result.gave.value ≡ taken.value }
     {

@@ -34,7 +34,8 @@ fn text(alloc: Global, log: &[u8], rows: u64) -> Result<Vec<u8>, u32>
     requires rows { rows ≤ most_rows }
     requires bytes { length log.now ≤ most_bytes }
     ensures ok { IfOk result (λ text. IsTextOfRun rows log.now text.items) }
-    ensures err { IfErr result (λ status. ((status ≡ 22) × IsErr (log_of log.now)) ⊎ (status ≡ 12)) }
+    ensures err { IfErr result
+        (λ status. ((status ≡ 22) × IsErr (log_of log.now)) ⊎ (status ≡ 12)) }
 {
     let log = match read_log(alloc, log) {
         Ok(log) => log,
@@ -76,7 +77,8 @@ pub extern "C" fn maple_replay(
     out: &mut [u8],
     used: &mut usize,
 ) -> u32
-    ensures within { (result ≡ 0) ⊎ (result ≡ 12) ⊎ (result ≡ 22) ⊎ (result ≡ 34) ⊎ IsUnfit rows log.now result }
+    ensures within { (result ≡ 0)
+        ⊎ (result ≡ 12) ⊎ (result ≡ 22) ⊎ (result ≡ 34) ⊎ IsUnfit rows log.now result }
     ensures writes { result ≡ 0 → WritesText rows log.now out.old out.new used.new }
     ensures short { result ≡ 34 → IsBufferShort rows log.now out.old used.new }
     ensures bad_log { result ≡ 22 → IsErr (log_of log.now) }

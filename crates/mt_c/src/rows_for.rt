@@ -13,7 +13,8 @@ use mt_tree::rows_enough;
 #[unsafe(no_mangle)]
 pub extern "C" fn maple_rows_for(ranges: u64) -> u64
     ensures rows { result ≡ rows_told ranges }
-    ensures enough { (l : Limits) (m : List Range) (s : Shortage) → length m ≤ ranges → IsShort l m s → s.held ≡ 0 → l.rows < result }
+    ensures enough { (l : Limits) (m : List Range) (s : Shortage)
+        → length m ≤ ranges → IsShort l m s → s.held ≡ 0 → l.rows < result }
 {
     rows_enough(ranges)
 }

@@ -3,7 +3,7 @@
 ghost use Rattle.std.specs.Prelude.{◌≡◌};
 ghost use Rattle.mt_tree.specs.Looks.{IsImagedBehind};
 ghost use Rattle.mt_tree.specs.Trees.{IsPassOf};
-ghost use Rattle.mt_c.specs.Looks.{HasFound, IsFoundIn, SharedImaged, TellsBytes, TellsMade, when_found};
+ghost use Rattle.mt_c.specs.Looks.{HasFoundOrTaken, IsFoundIn, SharedImaged, TellsBytes, TellsMade, when_found};
 ghost use Rattle.mt_c.specs.Users.{common_of, known_to, rested, user_tree};
 ghost use Rattle.mt_c.specs.Walkers.{IsPaused, TriedShut, knows, shut};
 
@@ -83,7 +83,8 @@ impl User {
         ensures common { common_of self.new ≡ common_of self.old }
         ensures chair { self.new.chair ≡ self.old.chair }
         ensures receipts { self.new.receipts ≡ self.old.receipts }
-        ensures found { IsFoundIn IsImagedBehind (user_tree self.old) (rested self.old) result (known_to self.new) }
+        ensures found { IsFoundIn IsImagedBehind
+            (user_tree self.old) (rested self.old) result (known_to self.new) }
         ensures once { TriedShut self.old.walker self.new.walker }
         ensures paused { IsPaused self.new.walker }
     {
@@ -94,7 +95,8 @@ impl User {
     #[tactic(auto, using(crate::proofs::Looking::image_told))]
     fn image_told(&mut self, alloc: Global, out: &mut [u8], used: &mut usize) -> u32
         ensures common { common_of self.new ≡ common_of self.old }
-        ensures found { HasFound IsImagedBehind (TellsBytes out.old out.new used.new result) self.old self.new }
+        ensures found { HasFoundOrTaken IsImagedBehind
+            (TellsBytes out.old out.new used.new result) self.old self.new }
     {
         let found = self.try_image(alloc);
         image_told(found, &mut self.receipts, out, used)

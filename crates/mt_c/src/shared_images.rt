@@ -7,7 +7,7 @@ ghost use Rattle.mt_c.specs.SharedImages.{IsFirstOfImage, IsFirstOfRanges, Lacks
 use crate::building::{BuildWhy, built};
 use crate::images::status_for;
 use crate::opens::kind_of;
-use crate::shared_maps::boxed_with;
+use crate::shared_maps::{boxed_with, shape_by};
 use crate::told::{EINVAL, OutRange};
 use crate::user::User;
 use crate::user_handle::UserHandle;
@@ -32,12 +32,7 @@ fn of_image(
         Ok(read) => read,
         Err(why) => return Err(status_for(why)),
     };
-    let shape = Shape {
-        kind,
-        rows,
-        passes,
-        calls,
-    };
+    let shape = shape_by!(kind, rows, passes, calls);
     match boxed_with(alloc, shape, &mut src) {
         Ok(whole) => Ok(whole),
         Err(status) => Err(status),
@@ -45,7 +40,7 @@ fn of_image(
 }
 
 /// The first user of a tree of the kind with this code that has exactly these ranges; or why there is none.
-#[tactic(auto, using(crate::proofs::SharedImages::no_kind_ranges, crate::proofs::SharedImages::no_ranges, crate::proofs::SharedImages::of_ranges, crate::proofs::SharedImages::ranges_lack))]
+#[tactic(auto, using(crate::proofs::SharedImages::first_of_ranges))]
 fn of_ranges(
     alloc: Global,
     code: u32,
@@ -54,8 +49,10 @@ fn of_ranges(
     calls: u64,
     ranges: &[OutRange],
 ) -> Result<Box<User>, BuildWhy>
-    ensures user { IfOk result (λ whole. IsFirstOfRanges code rows passes calls (map building.range_from_c ranges.now) whole.value) }
-    ensures lacks { IfErr result (λ why. LacksFirstOfRanges code rows passes calls (map building.range_from_c ranges.now) why.status why.at) }
+    ensures user { IfOk result (λ whole. IsFirstOfRanges code rows passes calls
+        (map building.range_from_c ranges.now) whole.value) }
+    ensures lacks { IfErr result (λ why. LacksFirstOfRanges code rows passes calls
+        (map building.range_from_c ranges.now) why.status why.at) }
 {
     let Some(kind) = kind_of(code) else {
         return Err(BuildWhy::alone(EINVAL));
@@ -64,12 +61,7 @@ fn of_ranges(
         Ok(rows) => rows,
         Err(why) => return Err(why),
     };
-    let shape = Shape {
-        kind,
-        rows,
-        passes,
-        calls,
-    };
+    let shape = shape_by!(kind, rows, passes, calls);
     match boxed_with(alloc, shape, &mut src) {
         Ok(whole) => Ok(whole),
         Err(status) => Err(BuildWhy::alone(status)),
@@ -88,7 +80,8 @@ pub extern "C" fn maple_shared_open_image(
     users: u32,
     calls: u64,
 ) -> u32
-    ensures { OpensUser (IsFirstOfImage bytes.now rows users calls) (LacksFirstOfImage bytes.now rows users calls) user.old user.new result }
+    ensures { OpensUser (IsFirstOfImage bytes.now rows users calls)
+        (LacksFirstOfImage bytes.now rows users calls) user.old user.new result }
 {
     if let Some(status) = user.unopened() {
         return status;
@@ -117,7 +110,8 @@ pub extern "C" fn maple_shared_build(
     calls: u64,
     at: &mut u64,
 ) -> u32
-    ensures { SharedBuilds kind rows users calls (map building.range_from_c ranges.now) user.old user.new result at.new }
+    ensures { SharedBuilds kind rows users calls
+        (map building.range_from_c ranges.now) user.old user.new result at.new }
 {
     *at = 0;
     if let Some(status) = user.unopened() {

@@ -72,7 +72,8 @@ impl User {
         ensures common { common_of self.new ≡ common_of self.old }
         ensures chair { self.new.chair ≡ self.old.chair }
         ensures receipts { self.new.receipts ≡ self.old.receipts }
-        ensures tried { IsTriedKept (user_tree self.old) (paused self.old) call.now result (known_to self.new) }
+        ensures tried { IsTriedKept
+            (user_tree self.old) (paused self.old) call.now result (known_to self.new) }
         ensures once { TriedOnce self.old.walker self.new.walker }
         ensures walk { self.new.walker.walk ≡ None }
     {

@@ -74,7 +74,8 @@ fn load_entries<L: Ledger>(
     requires parts { blank.parts ≡ L.parts }
     requires some { 0 < blank.parts }
     ensures of { IsPassOf tree.now pass.new }
-    ensures loaded { HasLoadedMany tree.now (pass_in pass.old) indexes.now entries.old result entries.new (pass_in pass.new) }
+    ensures loaded { HasLoadedMany tree.now
+        (pass_in pass.old) indexes.now entries.old result entries.new (pass_in pass.new) }
     ensures takes { Takes (91 * result.value + 4) pass.old pass.new }
 {
     let mut steps = Steps::<L>::new(blank);
@@ -96,7 +97,8 @@ fn step_ranges<L: Ledger>(
     requires some { 0 < blank.parts }
     ensures of { IsPassOf tree.now pass.new }
     ensures walk { IsWalkOf pass.new walk.new }
-    ensures walked { HasPutMany tree.now pass.old walk.old ranges.old result ranges.new pass.new walk.new }
+    ensures walked { HasPutMany
+        tree.now pass.old walk.old ranges.old result ranges.new pass.new walk.new }
 {
     let mut steps = Steps::<L>::new(blank);
     tree.step_many(pass, walk, ranges, &mut steps)
@@ -132,7 +134,8 @@ impl Walker {
     fn load_many(&mut self, tree: &Tree, indexes: &[u64], entries: &mut [u64]) -> Read<usize>
         requires { IsPassOf tree.now self.old.pass }
         ensures of { IsPassOf tree.now self.new.pass }
-        ensures loaded { HasLoadedMany tree.now (halted self.old) indexes.now entries.old result entries.new (knows self.new) }
+        ensures loaded { HasLoadedMany tree.now
+            (halted self.old) indexes.now entries.old result entries.new (knows self.new) }
         ensures rests { IsOnNoWalk self.new }
         ensures took { Took (91 * result.value + 4) self.old self.new.pass }
     {
@@ -147,8 +150,8 @@ impl Walker {
         requires walk { IsSome self.old.walk }
         ensures of { IsPassOf tree.now self.new.pass }
         ensures walk { IsSome self.new.walk }
-        ensures walked { IfSome self.old.walk
-            (λ walk. IfSome self.new.walk (HasPutMany tree.now self.old.pass walk ranges.old result ranges.new self.new.pass)) }
+        ensures walked { IfSome self.old.walk (λ walk. IfSome self.new.walk
+            (HasPutMany tree.now self.old.pass walk ranges.old result ranges.new self.new.pass)) }
     {
         let Some(walk) = &mut self.walk else {
             unreachable!()
@@ -163,8 +166,8 @@ impl Walker {
         requires walk { IsSome self.old.walk }
         ensures of { IsPassOf tree.now self.new.pass }
         ensures walk { IsSome self.new.walk }
-        ensures walked { IfSome self.old.walk
-            (λ walk. IfSome self.new.walk (HasWalkedOut tree.now self.old.pass walk ranges.old ranges.new result self.new.pass)) }
+        ensures walked { IfSome self.old.walk (λ walk. IfSome self.new.walk
+            (HasWalkedOut tree.now self.old.pass walk ranges.old ranges.new result self.new.pass)) }
     {
         let mut found = [Range {
             first: 0,
@@ -179,7 +182,7 @@ impl Walker {
 
     /// Where the walk that it is on goes on.
     fn place(&self) -> Option<u64>
-        ensures { result ≡ defined.place_in self.now.walk }
+        ensures { result ≡ defined.cursor_place self.now.walk }
     {
         match &self.walk {
             Some(walk) => walk.at(),
@@ -197,7 +200,8 @@ impl Walker {
     ) -> (Read<usize>, Option<u64>)
         requires { IsPassOf tree.now self.old.pass }
         ensures of { IsPassOf tree.now self.new.pass }
-        ensures stepped { defined.PutsMany tree.now self.old (Some from) ranges.old ranges.new result.0 result.1 self.new }
+        ensures stepped { defined.PutsMany tree.now self.old
+            (Some from) ranges.old ranges.new result.0 result.1 self.new }
     {
         self.walk_at(tree, from);
         let read = self.walk_out(tree, ranges);
@@ -217,7 +221,8 @@ impl Walker {
     ) -> (Read<usize>, Option<u64>)
         requires { IsPassOf tree.now self.old.pass }
         ensures of { IsPassOf tree.now self.new.pass }
-        ensures stepped { defined.PutsMany tree.now self.old place ranges.old ranges.new result.0 result.1 self.new }
+        ensures stepped { defined.PutsMany
+            tree.now self.old place ranges.old ranges.new result.0 result.1 self.new }
     {
         if let Some(from) = place {
             return self.step_many(tree, from, ranges);
@@ -240,7 +245,8 @@ impl User {
         ensures common { common_of self.new ≡ common_of self.old }
         ensures chair { self.new.chair ≡ self.old.chair }
         ensures receipts { self.new.receipts ≡ self.old.receipts }
-        ensures entry { IsEntry (user_tree self.old) (paused self.old) index result (known_to self.new) }
+        ensures entry { IsEntry
+            (user_tree self.old) (paused self.old) index result (known_to self.new) }
         ensures rests { IsOnNoWalk self.new.walker }
         ensures took { Took 95 self.old.walker self.new.walker.pass }
     {
@@ -252,7 +258,8 @@ impl User {
         ensures common { common_of self.new ≡ common_of self.old }
         ensures chair { self.new.chair ≡ self.old.chair }
         ensures receipts { self.new.receipts ≡ self.old.receipts }
-        ensures loaded { HasLoadedMany (user_tree self.old) (paused self.old) indexes.now entries.old result entries.new (known_to self.new) }
+        ensures loaded { HasLoadedMany (user_tree self.old)
+            (paused self.old) indexes.now entries.old result entries.new (known_to self.new) }
         ensures rests { IsOnNoWalk self.new.walker }
         ensures took { Took (91 * result.value + 4) self.old.walker self.new.walker.pass }
     {
@@ -268,7 +275,8 @@ impl User {
         ensures common { common_of self.new ≡ common_of self.old }
         ensures chair { self.new.chair ≡ self.old.chair }
         ensures receipts { self.new.receipts ≡ self.old.receipts }
-        ensures stepped { defined.PutsMany (user_tree self.old) self.old.walker place ranges.old ranges.new result.0 result.1 self.new.walker }
+        ensures stepped { defined.PutsMany (user_tree self.old)
+            self.old.walker place ranges.old ranges.new result.0 result.1 self.new.walker }
     {
         self.walker.step_many_from(&self.common.tree, place, ranges)
     }
@@ -305,7 +313,8 @@ pub extern "C" fn maple_shared_load_many(
     entries: &mut [u64],
     window: &mut OutWindow,
 ) -> u32
-    ensures { SharedLoadedMany indexes.now entries.old entries.new user.old user.new result window.new }
+    ensures { SharedLoadedMany
+        indexes.now entries.old entries.new user.old user.new result window.new }
 {
     let Some(mut whole) = user.take(alloc) else {
         *window = OutWindow::none();
@@ -329,7 +338,8 @@ pub extern "C" fn maple_shared_step_many(
     count: &mut u64,
     window: &mut OutWindow,
 ) -> u32
-    ensures { SharedSteppedMany walk.old walk.new ranges.old ranges.new user.old user.new result count.new window.new }
+    ensures { SharedSteppedMany walk.old
+        walk.new ranges.old ranges.new user.old user.new result count.new window.new }
 {
     let Some(mut whole) = user.take(alloc) else {
         *window = OutWindow::none();

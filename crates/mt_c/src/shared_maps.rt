@@ -8,7 +8,7 @@ ghost use Rattle.mt_c.specs.Calls.{IsAsked};
 ghost use Rattle.mt_c.specs.SharedMaps as defined;
 ghost use Rattle.mt_c.specs.SharedMaps.{IsFirstWith, LacksWith, SharedOfTree, shape_for};
 
-use crate::handle::Handle;
+use crate::handle::TreeHandle;
 use crate::own_tree::OwnTree;
 use crate::shared_told::field_status;
 use crate::told::{EBADF, EDOM, EINVAL, ENOMEM};
@@ -20,6 +20,20 @@ use mt_engine::Engine;
 use mt_rows::PlainRows;
 use mt_tree::{DupError, Shape, Tree};
 use std::alloc::Global;
+
+/// A shape of these parts, in this order.
+macro_rules! shape_by {
+    ($kind:expr, $rows:expr, $passes:expr, $calls:expr) => {
+        Shape {
+            kind: $kind,
+            rows: $rows,
+            passes: $passes,
+            calls: $calls,
+        }
+    };
+}
+
+pub(crate) use shape_by;
 
 /// The number that C gets where no tree is made.
 pub fn status_for(why: DupError) -> u32
@@ -55,7 +69,8 @@ fn first_with(alloc: Global, shape: Shape, rows: &mut PlainRows) -> Result<User,
 #[tactic(auto, using(crate::proofs::SharedMaps::lacks_memory))]
 pub fn boxed_with(alloc: Global, shape: Shape, rows: &mut PlainRows) -> Result<Box<User>, u32>
     requires { IsLawfulOf (sheet_in rows.old).tree shape.kind }
-    ensures user { IfOk result (λ whole. IsFirstWith shape (map_by (sheet_in rows.old).tree) whole.value) }
+    ensures user { IfOk result
+        (λ whole. IsFirstWith shape (map_by (sheet_in rows.old).tree) whole.value) }
     ensures lacks { IfErr result (LacksWith shape (sheet_in rows.old).tree) }
     ensures rest { OnlyReads (sheet_in rows.old) (sheet_in rows.new) }
 {
@@ -70,14 +85,15 @@ pub fn boxed_with(alloc: Global, shape: Shape, rows: &mut PlainRows) -> Result<B
 }
 
 /// As `boxed_with`, with the map of an engine's tree, which is only read.
-#[tactic(auto, using(mt_tree::proofs::Forms::lawful_as, mt_tree::proofs::Forms::idle_as, mt_tree::proofs::Forms::high_as, crate::proofs::Reading::asked_as))]
+#[tactic(auto, using(crate::proofs::Reading::put_together))]
 fn first_of(
     engine: Engine<PlainRows>,
     by: (Global, Shape),
 ) -> (Engine<PlainRows>, Result<Box<User>, u32>)
     requires { by.1.kind ≡ engine.kind }
     ensures rest { IsAsked engine result.0 }
-    ensures user { IfOk result.1 (λ whole. IsFirstWith by.1 (map_by engine.sheet.tree) whole.value) }
+    ensures user { IfOk result.1
+        (λ whole. IsFirstWith by.1 (map_by engine.sheet.tree) whole.value) }
     ensures lacks { IfErr result.1 (LacksWith by.1 engine.sheet.tree) }
 {
     let (alloc, shape) = by;
@@ -91,7 +107,8 @@ fn first_of(
 fn first_in(engine: &mut Engine<PlainRows>, by: (Global, Shape)) -> Result<Box<User>, u32>
     requires { by.1.kind ≡ engine.old.kind }
     ensures rest { IsAsked engine.old engine.new }
-    ensures user { IfOk result (λ whole. IsFirstWith by.1 (map_by engine.old.sheet.tree) whole.value) }
+    ensures user { IfOk result
+        (λ whole. IsFirstWith by.1 (map_by engine.old.sheet.tree) whole.value) }
     ensures lacks { IfErr result (LacksWith by.1 engine.old.sheet.tree) }
 {
     replace_with(engine, by, first_of)
@@ -102,32 +119,31 @@ impl OwnTree {
     /// says why there is none.
     fn share(&mut self, alloc: Global, rows: u64, passes: u32, calls: u64) -> Result<Box<User>, u32>
         ensures rest { IsAsked self.old.engine self.new.engine }
-        ensures user { IfOk result (λ whole. IsFirstWith (shape_for self.old.engine.kind rows passes calls) (map_by self.old.engine.sheet.tree) whole.value) }
-        ensures lacks { IfErr result (LacksWith (shape_for self.old.engine.kind rows passes calls) self.old.engine.sheet.tree) }
+        ensures user { IfOk result
+            (λ whole. IsFirstWith (shape_for self.old.engine.kind rows passes calls)
+            (map_by self.old.engine.sheet.tree) whole.value) }
+        ensures lacks { IfErr result (LacksWith
+            (shape_for self.old.engine.kind rows passes calls) self.old.engine.sheet.tree) }
     {
-        let shape = Shape {
-            kind: self.kind,
-            rows,
-            passes,
-            calls,
-        };
+        let shape = shape_by!(self.kind, rows, passes, calls);
         first_in(&mut self.engine, (alloc, shape))
     }
 }
 
 /// Opens a shared tree with the map of a tree of one thread, with `rows` nodes, for `users` users at a time and `calls` calls,
 /// and its first user.
-#[tactic(auto, using(crate::proofs::SharedMaps::of_closed, crate::proofs::SharedMaps::of_open, crate::proofs::SharedMaps::of_made, crate::proofs::SharedMaps::of_none))]
+#[tactic(auto, using(crate::proofs::SharedMaps::of_tree))]
 #[unsafe(no_mangle)]
 pub extern "C" fn maple_shared_of_tree(
     alloc: Global,
-    tree: &mut Handle,
+    tree: &mut TreeHandle,
     user: &mut UserHandle,
     rows: u64,
     users: u32,
     calls: u64,
 ) -> u32
-    ensures { SharedOfTree rows users calls tree.old.kept.value tree.new.kept.value user.old user.new result }
+    ensures { SharedOfTree
+        rows users calls tree.old.kept.value tree.new.kept.value user.old user.new result }
 {
     let Some(mut whole) = tree.take(alloc) else {
         return EBADF;

@@ -7,6 +7,7 @@ ghost use Rattle.mt_tree.specs.declared.shapes.MakeError.TheVariants as make_err
 ghost use Rattle.mt_c.specs.Shared.{IsFirstUser, IsLeftClosed, SharedClosed, SharedLeft, SharedNew, SharedOpened, SharedWith};
 
 use crate::opens::kind_of;
+use crate::shared_maps::shape_by;
 use crate::shared_told::field_status;
 use crate::told::{EINVAL, ENOMEM};
 use crate::user::User;
@@ -16,9 +17,11 @@ use std::alloc::Global;
 
 /// The box of the first user of a new tree.
 fn boxed(alloc: Global, shape: Shape) -> Result<Box<User>, MakeError>
-    ensures bad { (field : Field) → result ≡ Err (make_error.BadShape field) → first_bad shape ≡ Some field }
+    ensures bad { (field : Field)
+        → result ≡ Err (make_error.BadShape field) → first_bad shape ≡ Some field }
     ensures short { result ≡ Err make_error.NoMemory → first_bad shape ≡ None }
-    ensures first { IfOk result (λ whole. (first_bad shape ≡ None) × IsFirstUser shape [] whole.value) }
+    ensures first { IfOk result
+        (λ whole. (first_bad shape ≡ None) × IsFirstUser shape [] whole.value) }
 {
     let user = User::open(alloc, shape)?;
     match Box::new(alloc, user) {
@@ -28,7 +31,7 @@ fn boxed(alloc: Global, shape: Shape) -> Result<Box<User>, MakeError>
 }
 
 /// What an open of a closed user makes, and the number that C gets.
-#[tactic(auto, using(crate::proofs::Sharing::new_open, crate::proofs::Sharing::new_bad, crate::proofs::Sharing::new_short, crate::proofs::Sharing::new_no_kind, crate::proofs::Sharing::bad_shape, crate::proofs::Sharing::left_none, crate::proofs::Sharing::left_some))]
+#[tactic(auto, using(crate::proofs::Sharing::new_handle))]
 fn opened(alloc: Global, code: u32, rows: u64, passes: u32, calls: u64) -> (UserHandle, u32)
     ensures new { SharedNew code rows passes calls result.0.kept.value result.1 }
     ensures left { IsLeftClosed result.0 }
@@ -36,12 +39,7 @@ fn opened(alloc: Global, code: u32, rows: u64, passes: u32, calls: u64) -> (User
     let Some(kind) = kind_of(code) else {
         return (UserHandle::closed(), EINVAL);
     };
-    let shape = Shape {
-        kind,
-        rows,
-        passes,
-        calls,
-    };
+    let shape = shape_by!(kind, rows, passes, calls);
     match boxed(alloc, shape) {
         Ok(whole) => (UserHandle::of(whole), 0),
         Err(MakeError::BadShape { field }) => (UserHandle::closed(), field_status(field)),
@@ -71,7 +69,7 @@ pub extern "C" fn maple_shared_open(
 }
 
 /// Opens another user of the same tree.
-#[tactic(auto, using(crate::proofs::Sharing::with_closed, crate::proofs::Sharing::with_busy, crate::proofs::Sharing::with_made, crate::proofs::Sharing::with_none))]
+#[tactic(auto, using(crate::proofs::Sharing::with_other))]
 #[unsafe(no_mangle)]
 pub extern "C" fn maple_share(alloc: Global, user: &mut UserHandle, other: &mut UserHandle) -> u32
     ensures { SharedWith user.old user.new other.old other.new result }

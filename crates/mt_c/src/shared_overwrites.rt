@@ -28,7 +28,8 @@ impl Walker {
     ) -> Result<(Result<Done, Worn>, u64), Busy>
         requires { IsPassOf tree.now self.old.pass }
         ensures of { IsPassOf tree.now self.new.pass }
-        ensures tried { IsTriedOver tree.now (halted self.old) first last entry met.old met.new result (knows self.new) }
+        ensures tried { IsTriedOver tree.now
+            (halted self.old) first last entry met.old met.new result (knows self.new) }
         ensures once { TriedOnce self.old self.new }
         ensures walk { self.new.walk ≡ None }
     {
@@ -60,7 +61,8 @@ impl User {
         ensures common { common_of self.new ≡ common_of self.old }
         ensures chair { self.new.chair ≡ self.old.chair }
         ensures receipts { self.new.receipts ≡ self.old.receipts }
-        ensures tried { IsTriedOver (user_tree self.old) (paused self.old) first last entry met.old met.new result (known_to self.new) }
+        ensures tried { IsTriedOver (user_tree self.old)
+            (paused self.old) first last entry met.old met.new result (known_to self.new) }
         ensures once { TriedOnce self.old.walker self.new.walker }
         ensures walk { self.new.walker.walk ≡ None }
     {
@@ -78,7 +80,8 @@ impl User {
         met: &mut [OutRange],
     ) -> (u64, Outcome, u32)
         ensures common { common_of self.new ≡ common_of self.old }
-        ensures tried { HasTriedOver first last entry met.old met.new result.0 result.2 result.1 self.old self.new }
+        ensures tried { HasTriedOver
+            first last entry met.old met.new result.0 result.2 result.1 self.old self.new }
     {
         let tried = self.try_store_over(first, last, entry, met);
         let (alone, count) = parted(tried);
@@ -101,7 +104,8 @@ pub extern "C" fn maple_try_store_over(
     count: &mut u64,
     done: &mut Outcome,
 ) -> u32
-    ensures { SharedTriedOver first last entry met.old met.new count.new user.old user.new result done.new }
+    ensures { SharedTriedOver
+        first last entry met.old met.new count.new user.old user.new result done.new }
 {
     let Some(mut whole) = user.take(alloc) else {
         *count = 0;

@@ -7,7 +7,7 @@ ghost use Rattle.mt_c.specs.Shared as defined;
 use crate::purse::Purse;
 use crate::receipts::Receipts;
 use crate::told::{
-    EDOM, ENOMEM, EOVERFLOW, OutRange, found_status, no_range, out_of, shortage_of, told_of,
+    EDOM, ENOMEM, EOVERFLOW, OutRange, found_status, no_range, out_of, shortage_of, told_in_c,
 };
 use crate::user_acts::Settling;
 use crate::user_opens::Unchanged;
@@ -117,7 +117,7 @@ pub fn done_told(done: Done) -> (Outcome, u32)
     ensures outcome { result.0 ≡ defined.done_outcome done }
     ensures status { result.1 ≡ defined.done_status done }
 {
-    let told = told_of(Some(done.reply));
+    let told = told_in_c(Some(done.reply));
     let OutRange { first, last, entry } = told.range;
     let shortage = shortage_of(done.reply);
     let (by, epoch) = holder_told(shortage.by);

@@ -5,7 +5,7 @@ ghost use Rattle.mt_c.specs.Calls.{IsAsked};
 ghost use Rattle.mt_c.specs.Stats as defined;
 ghost use Rattle.mt_c.specs.Stats.{HasStats, TellsTree};
 
-use crate::handle::Handle;
+use crate::handle::TreeHandle;
 use crate::own_tree::OwnTree;
 use crate::told::EBADF;
 use core::mem::replace_with;
@@ -41,7 +41,7 @@ pub fn no_stats() -> OutStats
 }
 
 /// How an engine's tree uses its nodes, after this many calls.
-#[tactic(auto, using(mt_tree::proofs::Forms::lawful_as, mt_tree::proofs::Forms::idle_as, mt_tree::proofs::Forms::high_as, mt_tree::proofs::Forms::live_as, crate::proofs::Reading::asked_as, crate::proofs::Counting::tells_tree, crate::proofs::Counting::still_high))]
+#[tactic(auto, using(crate::proofs::Reading::put_together, crate::proofs::Counting::tells_tree, crate::proofs::Counting::still_high))]
 fn stats_of(engine: Engine<PlainRows>, by: (Kind, u64)) -> (Engine<PlainRows>, OutStats)
     requires kind { by.0 ≡ engine.kind }
     requires calls { by.1 ≡ engine.sheet.ended }
@@ -86,7 +86,7 @@ impl OwnTree {
 /// Tells how a tree uses its nodes.
 #[tactic(auto, using(crate::proofs::Counting::stats_open, crate::proofs::Counting::stats_closed))]
 #[unsafe(no_mangle)]
-pub extern "C" fn maple_stats(alloc: Global, tree: &mut Handle, stats: &mut OutStats) -> u32
+pub extern "C" fn maple_stats(alloc: Global, tree: &mut TreeHandle, stats: &mut OutStats) -> u32
     ensures { HasStats tree.old.kept.value tree.new.kept.value result stats.new }
 {
     let Some(mut whole) = tree.take(alloc) else {

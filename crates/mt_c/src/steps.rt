@@ -7,7 +7,7 @@ ghost use Rattle.mt_engine.specs.RangeWalks.{WalksFrom};
 ghost use Rattle.mt_c.specs.Calls.{found_status, out_of};
 ghost use Rattle.mt_c.specs.Walking.{IsStepped, HasSteppedOn, walk_index, walk_start, last_index_of, walk_from};
 
-use crate::handle::Handle;
+use crate::handle::TreeHandle;
 use crate::own_tree::OwnTree;
 use crate::told::{EBADF, ENOENT, OutRange, no_range};
 use mt_base::Range;
@@ -125,11 +125,12 @@ pub fn tell(
 #[unsafe(no_mangle)]
 pub extern "C" fn maple_step(
     alloc: Global,
-    tree: &mut Handle,
+    tree: &mut TreeHandle,
     walk: &mut OutWalk,
     range: &mut OutRange,
 ) -> u32
-    ensures { HasSteppedOn walk.old tree.old.kept.value tree.new.kept.value result range.new walk.new }
+    ensures { HasSteppedOn
+        walk.old tree.old.kept.value tree.new.kept.value result range.new walk.new }
 {
     let Some(mut whole) = tree.take(alloc) else {
         *range = no_range();

@@ -156,7 +156,7 @@ pub fn shortage_of(reply: Reply) -> Shortage
 }
 
 /// All that C gets of a call.
-pub fn told_of(made: Option<Reply>) -> ToldCall
+pub fn told_in_c(made: Option<Reply>) -> ToldCall
     ensures { result ≡ defined.told_in_c made }
 {
     ToldCall {

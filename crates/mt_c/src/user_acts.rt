@@ -32,7 +32,7 @@ pub enum Settling {
 
 impl Common {
     /// A walker and all handles of the purse see the whole history, if neither the purse nor the lock is taken.
-    #[tactic(auto, using(crate::proofs::Using::settled, crate::proofs::Using::unpursed, crate::proofs::Using::locked, crate::proofs::Using::rests_in_purse, crate::proofs::Using::went_after))]
+    #[tactic(auto, using(crate::proofs::Using::settles))]
     pub fn settle(
         &self,
         walker: &mut Walker,
@@ -43,7 +43,8 @@ impl Common {
         ensures of { IsPassOf self.now.tree walker.new.pass }
         ensures seated { IsChairAtPurse self.now chair.new }
         ensures cuts { cuts_of chair.new ≡ cuts_of chair.old + 1 }
-        ensures settled { IsSettledUser self.now (cuts_of chair.old) (halted walker.old) result (knows walker.new) }
+        ensures settled { IsSettledUser self.now
+            (cuts_of chair.old) (halted walker.old) result (knows walker.new) }
         ensures went { WentToSettle result walker.old walker.new }
     {
         walker.pause(&self.tree);
@@ -91,7 +92,8 @@ impl User {
         ensures common { common_of self.new ≡ common_of self.old }
         ensures chair { self.new.chair ≡ self.old.chair }
         ensures receipts { self.new.receipts ≡ self.old.receipts }
-        ensures answer { IsWalkAnswer (user_tree self.old) (known_to self.old) query.now result (known_to self.new) }
+        ensures answer { IsWalkAnswer
+            (user_tree self.old) (known_to self.old) query.now result (known_to self.new) }
         ensures rests { IsOnNoWalk self.new.walker }
         ensures took { Took (most_made query.now) self.old.walker self.new.walker.pass }
         ensures left { IfErr result (GaveUp query.now self.old.walker self.new.walker) }
@@ -104,7 +106,8 @@ impl User {
         ensures common { common_of self.new ≡ common_of self.old }
         ensures chair { self.new.chair ≡ self.old.chair }
         ensures receipts { self.new.receipts ≡ self.old.receipts }
-        ensures answer { IsWalkAnswer (user_tree self.old) (known_to self.old) (Load index) (Ok result) (known_to self.new) }
+        ensures answer { IsWalkAnswer (user_tree self.old)
+            (known_to self.old) (Load index) (Ok result) (known_to self.new) }
         ensures rests { IsOnNoWalk self.new.walker }
         ensures took { Took 170 self.old.walker self.new.walker.pass }
     {
@@ -116,7 +119,8 @@ impl User {
         ensures common { common_of self.new ≡ common_of self.old }
         ensures chair { self.new.chair ≡ self.old.chair }
         ensures receipts { self.new.receipts ≡ self.old.receipts }
-        ensures stepped { StepsFrom (user_tree self.old) self.old.walker place result self.new.walker }
+        ensures stepped { StepsFrom
+            (user_tree self.old) self.old.walker place result self.new.walker }
     {
         self.walker.step_from(&self.common.tree, place)
     }
@@ -126,7 +130,8 @@ impl User {
         ensures common { common_of self.new ≡ common_of self.old }
         ensures chair { self.new.chair ≡ self.old.chair }
         ensures receipts { self.new.receipts ≡ self.old.receipts }
-        ensures tried { IsTried (user_tree self.old) (paused self.old) call.now result (known_to self.new) }
+        ensures tried { IsTried
+            (user_tree self.old) (paused self.old) call.now result (known_to self.new) }
         ensures once { TriedOnce self.old.walker self.new.walker }
     {
         self.walker.try_act(&self.common.tree, call)
@@ -138,7 +143,8 @@ impl User {
         ensures common { common_of self.new ≡ common_of self.old }
         ensures chair { self.new.chair ≡ self.old.chair }
         ensures receipts { self.new.receipts ≡ self.old.receipts }
-        ensures synced { IsSynced (user_tree self.old) (paused self.old) result (known_to self.new) }
+        ensures synced { IsSynced
+            (user_tree self.old) (paused self.old) result (known_to self.new) }
         ensures went { WentOnce self.old.walker self.new.walker }
     {
         self.walker.meet(&self.common.tree, &mut [])
@@ -149,7 +155,8 @@ impl User {
     pub fn settle(&mut self) -> Result<(u64, u64, Given<Purse, Tree>), Settling>
         ensures common { common_of self.new ≡ common_of self.old }
         ensures chair { cuts self.new ≡ cuts self.old + 1 }
-        ensures settled { IsSettledUser (common_of self.old) (cuts self.old) (paused self.old) result (known_to self.new) }
+        ensures settled { IsSettledUser (common_of self.old)
+            (cuts self.old) (paused self.old) result (known_to self.new) }
         ensures went { WentToSettle result self.old.walker self.new.walker }
         ensures receipts { self.new.receipts ≡ self.old.receipts }
     {

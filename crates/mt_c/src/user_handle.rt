@@ -79,7 +79,8 @@ impl UserHandle {
     pub fn unopened(&self) -> Option<u32>
         ensures closed { MatchOption result (self.now.kept.value ≡ None) (λ _. Unit {0}) }
         ensures state { MatchOption result (self.now.state ≡ 0) (λ _. Unit {0}) }
-        ensures status { MatchOption result (Unit {0}) (λ status. unopened self.now.state ≡ Some status) }
+        ensures status { MatchOption result
+            (Unit {0}) (λ status. unopened self.now.state ≡ Some status) }
     {
         if self.state == CLOSED {
             return None;
@@ -114,7 +115,8 @@ impl UserHandle {
     #[inline(never)]
     #[tactic(auto, using(crate::proofs::Keeping::none_there, crate::proofs::Keeping::some_there))]
     pub fn take(&mut self, alloc: Global) -> Option<Box<User>>
-        ensures user { MatchOption result (self.old.kept.value ≡ None) (λ whole. self.old.kept.value ≡ Some whole.value) }
+        ensures user { MatchOption result
+            (self.old.kept.value ≡ None) (λ whole. self.old.kept.value ≡ Some whole.value) }
         ensures same { MatchOption result (self.new ≡ self.old) (λ _. Unit {0}) }
         ensures state { MatchOption result (Unit {0}) (λ _. self.new.state ≡ 2) }
         ensures closed { self.new.kept.value ≡ None }

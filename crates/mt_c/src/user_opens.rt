@@ -79,7 +79,8 @@ impl Purse {
         ensures chair { IfOk result (λ other. other.value.chair ≡ chair) }
         ensures rests { IfOk result (λ other. IsOnNoWalk other.value.walker) }
         ensures none { IfOk result (λ other. other.value.receipts ≡ no_receipts) }
-        ensures out { IfOk result (λ other. known_in self.old ≡ known_in self.new ++ known_to other.value ∷ []) }
+        ensures out { IfOk result
+            (λ other. known_in self.old ≡ known_in self.new ++ known_to other.value ∷ []) }
         ensures back { IfErr result (λ _. known_in self.new ≡ known_in self.old) }
         ensures chair_back { IfErr result (λ back. back ≡ chair) }
     {
@@ -174,8 +175,10 @@ impl Common {
         ensures taken { IfOk result (λ taken. HasPurse self.now taken.took taken.seat) }
         ensures taken_cuts { IfOk result (λ taken. taken.seat.me.0.cuts ≡ cuts_of chair.new) }
         ensures took { IfOk result (λ taken. known_in taken.took.value ≡ known_in taken.value) }
-        ensures passes { IfOk result (λ taken. All (IsSparePass self.now.tree) taken.value.passes.items) }
-        ensures room { IfOk result (λ taken. vec_len taken.value.passes + 1 ≤ vec_capacity taken.value.passes) }
+        ensures passes { IfOk result
+            (λ taken. All (IsSparePass self.now.tree) taken.value.passes.items) }
+        ensures room { IfOk result
+            (λ taken. vec_len taken.value.passes + 1 ≤ vec_capacity taken.value.passes) }
         ensures why { IfErr result (IsWhy self.now (cuts_of chair.old)) }
         ensures place { IfErr result WantsNoPlace }
     {
@@ -206,7 +209,8 @@ impl Common {
         requires passes { All (IsSparePass self.now.tree) taken.value.passes.items }
         requires room { vec_len taken.value.passes + 1 ≤ vec_capacity taken.value.passes }
         requires pass { IsPassOf self.now.tree pass }
-        ensures { HasLeft self.now (cuts_of chair) (record (pass_in pass) { standing = None }) result }
+        ensures { HasLeft self.now
+            (cuts_of chair) (record (pass_in pass) { standing = None }) result }
     {
         self.tree.halt(&mut pass, &mut Walk::new(0, 0));
         taken.value.passes.push_reserved(pass);
@@ -220,7 +224,8 @@ pub fn first(alloc: Global, tree: Tree, passes: Vec<Pass>) -> Result<User, NoMem
     requires passes { All (IsSparePass tree) passes.items }
     requires some { 0 < vec_len passes }
     ensures tree { IfOk result (λ user. user_tree user ≡ tree) }
-    ensures passes { IfOk result (λ user. passes.items ≡ (first_in (common_of user)).passes.items ++ user.walker.pass ∷ []) }
+    ensures passes { IfOk result
+        (λ user. passes.items ≡ (first_in (common_of user)).passes.items ++ user.walker.pass ∷ []) }
     ensures chair { IfOk result (λ user. cuts user ≡ 0) }
     ensures walk { IfOk result (λ user. user.walker.walk ≡ None) }
     ensures none { IfOk result (λ user. user.receipts ≡ no_receipts) }
@@ -245,7 +250,8 @@ impl User {
     ///
     /// `BadShape` with the first field that is out of range; `NoMemory` where memory ran out.
     pub fn open(alloc: Global, shape: Shape) -> Result<User, MakeError>
-        ensures bad { (field : Field) → result ≡ Err (make_error.BadShape field) → first_bad shape ≡ Some field }
+        ensures bad { (field : Field)
+            → result ≡ Err (make_error.BadShape field) → first_bad shape ≡ Some field }
         ensures good { IfOk result (λ _. first_bad shape ≡ None) }
         ensures short { result ≡ Err make_error.NoMemory → first_bad shape ≡ None }
         ensures first { IfOk result (IsFirstUser shape []) }
@@ -270,7 +276,8 @@ impl User {
         ensures walker { self.new.walker ≡ self.old.walker }
         ensures receipts { self.new.receipts ≡ self.old.receipts }
         ensures other { IfOk result (λ r. common_of r.0.value ≡ common_of self.old) }
-        ensures pass { IfOk result (λ r. IsOfPurse (common_of self.old) (cuts self.old) r.0.value r.1) }
+        ensures pass { IfOk result
+            (λ r. IsOfPurse (common_of self.old) (cuts self.old) r.0.value r.1) }
         ensures shared { IfOk result (λ _. cuts self.new ≡ cuts self.old + 2) }
         ensures why { IfErr result (IsWhy (common_of self.old) (cuts self.old)) }
         ensures unchanged { IfErr result (λ _. cuts self.new ≡ cuts self.old + 1) }
@@ -291,8 +298,10 @@ impl User {
         ensures taken { IfOk result (λ taken. HasPurse (common_of self.old) taken.took taken.seat) }
         ensures taken_cuts { IfOk result (λ taken. taken.seat.me.0.cuts ≡ cuts self.new) }
         ensures took { IfOk result (λ taken. known_in taken.took.value ≡ known_in taken.value) }
-        ensures passes { IfOk result (λ taken. All (IsSparePass (common_of self.old).tree) taken.value.passes.items) }
-        ensures room { IfOk result (λ taken. vec_len taken.value.passes + 1 ≤ vec_capacity taken.value.passes) }
+        ensures passes { IfOk result
+            (λ taken. All (IsSparePass (common_of self.old).tree) taken.value.passes.items) }
+        ensures room { IfOk result
+            (λ taken. vec_len taken.value.passes + 1 ≤ vec_capacity taken.value.passes) }
         ensures why { IfErr result (IsWhy (common_of self.old) (cuts self.old)) }
         ensures place { IfErr result WantsNoPlace }
     {
@@ -325,7 +334,8 @@ impl User {
     /// `Busy` if another user has the purse; `NoMemory` if memory ran out. The user is returned, its walk paused.
     #[tactic(auto, using(crate::proofs::Using::took_still))]
     pub fn leave(user: Box<User>) -> Result<Left, (Box<User>, Unchanged)>
-        ensures left { IfOk result (HasLeft (common_of user.value) (cuts user.value + 1) (rested user.value)) }
+        ensures left { IfOk result
+            (HasLeft (common_of user.value) (cuts user.value + 1) (rested user.value)) }
         ensures common { IfErr result (λ r. common_of r.0.value ≡ common_of user.value) }
         ensures chair { IfErr result (λ r. cuts r.0.value ≡ cuts user.value + 1) }
         ensures known { IfErr result (λ r. known_to r.0.value ≡ paused user.value) }

@@ -34,7 +34,8 @@ fn load_range<L: Ledger>(
     requires parts { blank.parts ≡ L.parts }
     requires some { 0 < blank.parts }
     ensures of { IsPassOf tree.now pass.new }
-    ensures read { (k : ℕ) × known.Read (opened tree.now) (pass_in pass.old) result.lo result.hi k (Load index) result.value (pass_in pass.new) }
+    ensures read { (k : ℕ) × known.Read (opened tree.now)
+        (pass_in pass.old) result.lo result.hi k (Load index) result.value (pass_in pass.new) }
     ensures section { HasRead result.lo result.hi (pass_in pass.old) (pass_in pass.new) }
     ensures takes { Takes 170 pass.old pass.new }
 {
@@ -97,6 +98,7 @@ impl Walker {
 
     /// Asks one query, without the lock.
     #[tactic(auto, using(crate::proofs::Using::answer_made, crate::proofs::Using::rested, crate::proofs::Using::took_more, crate::proofs::Using::gave_up))]
+    #[inline(never)]
     pub fn ask(&mut self, tree: &Tree, query: &Query) -> Result<Read<Option<Range>>, Moved>
         requires { IsPassOf tree.now self.old.pass }
         ensures of { IsPassOf tree.now self.new.pass }
@@ -114,7 +116,8 @@ impl Walker {
     pub fn load(&mut self, tree: &Tree, index: u64) -> Read<Option<Range>>
         requires { IsPassOf tree.now self.old.pass }
         ensures of { IsPassOf tree.now self.new.pass }
-        ensures answer { IsWalkAnswer tree.now (knows self.old) (Load index) (Ok result) (knows self.new) }
+        ensures answer { IsWalkAnswer tree.now
+            (knows self.old) (Load index) (Ok result) (knows self.new) }
         ensures rests { IsOnNoWalk self.new }
         ensures took { Took 170 self.old self.new.pass }
     {
@@ -123,6 +126,7 @@ impl Walker {
     }
 
     /// Whether it is on a walk that is at this index.
+    #[inline(always)]
     fn stands_at(&self, from: u64) -> bool
         ensures { result ≡ stands_at self.now.walk from }
     {
@@ -136,7 +140,8 @@ impl Walker {
     }
 
     /// Afterwards it is on a walk that is at this index: on the one that it was on, if that is there.
-    #[tactic(auto, using(crate::proofs::Using::from_any, crate::proofs::Using::begins_walk, crate::proofs::Using::stands_on, crate::proofs::Using::paused_knows, crate::proofs::Using::same_knows, crate::proofs::Using::at_index, crate::proofs::Using::goes_kept, crate::proofs::Using::goes_anew, crate::proofs::Using::is_new_walk, crate::proofs::Using::took_none))]
+    #[tactic(auto, using(crate::proofs::Using::walks_from))]
+    #[inline(always)]
     pub(crate) fn walk_at(&mut self, tree: &Tree, from: u64)
         requires { IsPassOf tree.now self.old.pass }
         ensures of { IsPassOf tree.now self.new.pass }
@@ -154,12 +159,15 @@ impl Walker {
 
     /// The next range of the walk that it is on.
     #[tactic(auto, using(crate::proofs::Using::on_answer, crate::proofs::Using::on_walked, crate::proofs::Using::on_place, crate::proofs::Using::goes_on))]
+    #[inline(always)]
     fn walk_on(&mut self, tree: &Tree) -> Read<Option<Range>>
         requires of { IsPassOf tree.now self.old.pass }
         requires walk { IsSome self.old.walk }
         ensures of { IsPassOf tree.now self.new.pass }
-        ensures read { IfSome self.old.walk (λ walk. IsReadBy tree.now (knows self.old) (find_at walk.at last_index) result (knows self.new)) }
-        ensures walked { IfSome self.old.walk (λ walk. IfSome self.new.walk (HasWalked tree.now self.old.pass walk result self.new.pass)) }
+        ensures read { IfSome self.old.walk (λ walk. IsReadBy tree.now
+            (knows self.old) (find_at walk.at last_index) result (knows self.new)) }
+        ensures walked { IfSome self.old.walk (λ walk. IfSome self.new.walk
+            (HasWalked tree.now self.old.pass walk result self.new.pass)) }
         ensures at { IsOnAt self.new.walk (place_behind result.value last_index) }
     {
         let Some(walk) = &mut self.walk else {
@@ -171,6 +179,7 @@ impl Walker {
     /// The first range that ends at an index or above, without the lock. The leaf that it is in is kept, and its section is
     /// open, until the walk ends or the handle is used for something else.
     #[tactic(auto, using(crate::proofs::Using::is_on))]
+    #[inline(always)]
     fn step(&mut self, tree: &Tree, from: u64) -> Read<Option<Range>>
         requires { IsPassOf tree.now self.old.pass }
         ensures of { IsPassOf tree.now self.new.pass }
@@ -186,6 +195,7 @@ impl Walker {
     }
 
     /// As `step`, from a place; where there is no place it finds nothing.
+    #[inline(always)]
     pub fn step_from(&mut self, tree: &Tree, place: Option<u64>) -> Read<Option<Range>>
         requires { IsPassOf tree.now self.old.pass }
         ensures of { IsPassOf tree.now self.new.pass }
@@ -219,9 +229,11 @@ impl Walker {
         requires others { All (IsSparePass tree.now) others.old }
         ensures of { IsPassOf tree.now self.new.pass }
         ensures others { All (IsSparePass tree.now) others.new }
-        ensures met { IfOk result (HaveMet tree.now (halted self.old ∷ map pass_in others.old) (knows self.new ∷ map pass_in others.new)) }
+        ensures met { IfOk result (HaveMet tree.now (halted self.old ∷ map pass_in others.old)
+            (knows self.new ∷ map pass_in others.new)) }
         ensures busy { IfErr result (IsBusyOf tree.now) }
-        ensures kept { IfErr result (λ _. (knows self.new ≡ halted self.old) × (others.new ≡ others.old)) }
+        ensures kept { IfErr result
+            (λ _. (knows self.new ≡ halted self.old) × (others.new ≡ others.old)) }
         ensures went { WentOnce self.old self.new }
         ensures rest { map turn_seat others.new ≡ map turn_seat others.old }
     {

@@ -1,5 +1,4 @@
-use Rattle.mt_c.proofs.Prelude.{rules, ◌∙◌, ap}
-use Rattle.std.specs.Prelude.{slice_set}
+use Rattle.mt_c.proofs.Prelude.{rules, ◌∙◌, ap, slice_set}
 use Rattle.mt_c.proofs.SharingMany.{put_on}
 use Rattle.mt_c.proofs.shared_many.put_ranges.Goals as goal
 

@@ -1,6 +1,4 @@
-use Rattle.mt_c.proofs.Prelude.{◌≡◌, ◌++◌, length, map}
-use Rattle.std.specs.Prelude.{drop, take}
-use Rattle.mt_c.specs.Calls.{range_out}
+use Rattle.mt_c.proofs.Prelude.{◌≡◌, ◌++◌, length, map, range_out, drop, take}
 use Rattle.mt_c.proofs.shared_many.put_ranges.Given as goal
 
 abbrev pub invariant-loop-i : goal.invariant-loop-i

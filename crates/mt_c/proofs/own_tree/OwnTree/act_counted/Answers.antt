@@ -1,5 +1,4 @@
-use Rattle.mt_c.proofs.Prelude.{◌≡◌, ◌+◌, IfSome, OwnTree, length, map_by, refl, subst, sym}
-use Rattle.mt_base.specs.Call.{acted}
+use Rattle.mt_c.proofs.Prelude.{◌≡◌, ◌+◌, IfSome, OwnTree, length, map_by, refl, subst, sym, acted}
 use Rattle.mt_c.proofs.RangeCounts.{own_if_made}
 use Rattle.mt_c.proofs.own_tree.OwnTree.act_counted.Goals as goal
 

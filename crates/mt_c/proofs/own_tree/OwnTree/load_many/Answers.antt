@@ -1,5 +1,4 @@
-use Rattle.mt_c.proofs.Prelude.{◌∙◌, ap, length, take, map_by, OwnTree}
-use Rattle.mt_engine.specs.Batches.{entries_at, put_first}
+use Rattle.mt_c.proofs.Prelude.{◌∙◌, ap, length, take, map_by, OwnTree, entries_at, put_first}
 use Rattle.mt_c.proofs.RangeCounts.{own_if_asked}
 use Rattle.mt_c.proofs.own_tree.OwnTree.load_many.Goals as goal
 

@@ -1,6 +1,4 @@
-use Rattle.mt_c.proofs.Prelude.{subst, map_by, OwnTree}
-use Rattle.mt_tree.specs.Overwrites.{TellsMet, ranges_met}
-use Rattle.mt_c.specs.Calls.{range_out}
+use Rattle.mt_c.proofs.Prelude.{subst, map_by, OwnTree, range_out, TellsMet, ranges_met}
 use Rattle.mt_c.proofs.RangeCounts.{own_if_asked}
 use Rattle.mt_c.proofs.own_tree.OwnTree.tell_met.Goals as goal
 

@@ -1,5 +1,4 @@
-use Rattle.mt_c.proofs.Prelude.{subst, sym, Common, paused, knows}
-use Rattle.mt_c.specs.Walkers.{IsEntry}
+use Rattle.mt_c.proofs.Prelude.{subst, sym, Common, paused, knows, IsEntry}
 use Rattle.mt_c.proofs.Using.{on}
 use Rattle.mt_c.proofs.user.User.entry.Goals as goal
 

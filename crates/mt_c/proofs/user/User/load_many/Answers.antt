@@ -1,5 +1,4 @@
-use Rattle.mt_c.proofs.Prelude.{subst, sym, Common, paused, knows}
-use Rattle.mt_tree.specs.Many.{HasLoadedMany}
+use Rattle.mt_c.proofs.Prelude.{subst, sym, Common, paused, knows, HasLoadedMany}
 use Rattle.mt_c.proofs.Using.{on}
 use Rattle.mt_c.proofs.user.User.load_many.Goals as goal
 

@@ -1,5 +1,4 @@
-use Rattle.mt_c.proofs.Prelude.{subst, sym, Common}
-use Rattle.mt_c.specs.SharedMany.{PutsMany}
+use Rattle.mt_c.proofs.Prelude.{subst, sym, Common, PutsMany}
 use Rattle.mt_c.proofs.Using.{on}
 use Rattle.mt_c.proofs.user.User.step_many_from.Goals as goal
 

@@ -1,5 +1,4 @@
-use Rattle.mt_c.proofs.Prelude.{subst, sym, Common, halted, knows}
-use Rattle.mt_c.specs.SharedKept.{IsTriedKept}
+use Rattle.mt_c.proofs.Prelude.{subst, sym, Common, halted, knows, IsTriedKept}
 use Rattle.mt_c.proofs.Using.{on}
 use Rattle.mt_c.proofs.user.User.try_act_kept.Goals as goal
 

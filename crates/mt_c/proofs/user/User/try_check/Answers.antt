@@ -1,5 +1,4 @@
-use Rattle.mt_c.proofs.Prelude.{subst, sym, Common, IsFormBehind, IsFoundIn, knows}
-use Rattle.mt_c.specs.Walkers.{shut}
+use Rattle.mt_c.proofs.Prelude.{subst, sym, Common, IsFormBehind, IsFoundIn, knows, shut}
 use Rattle.mt_c.proofs.Using.{on}
 use Rattle.mt_c.proofs.user.User.try_check.Goals as goal
 

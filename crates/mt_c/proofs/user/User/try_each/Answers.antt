@@ -1,5 +1,4 @@
-use Rattle.mt_c.proofs.Prelude.{subst, sym, Common, halted, knows}
-use Rattle.mt_c.specs.CallLists.{IsTriedEach}
+use Rattle.mt_c.proofs.Prelude.{subst, sym, Common, halted, knows, IsTriedEach}
 use Rattle.mt_c.proofs.Using.{on}
 use Rattle.mt_c.proofs.user.User.try_each.Goals as goal
 

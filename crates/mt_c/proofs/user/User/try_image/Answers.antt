@@ -1,5 +1,4 @@
-use Rattle.mt_c.proofs.Prelude.{subst, sym, Common, IsFoundIn, IsImagedBehind, knows}
-use Rattle.mt_c.specs.Walkers.{shut}
+use Rattle.mt_c.proofs.Prelude.{subst, sym, Common, IsFoundIn, IsImagedBehind, knows, shut}
 use Rattle.mt_c.proofs.Using.{on}
 use Rattle.mt_c.proofs.user.User.try_image.Goals as goal
 

@@ -1,5 +1,4 @@
-use Rattle.mt_c.proofs.Prelude.{subst, sym, Common, halted, knows}
-use Rattle.mt_c.specs.Overwrites.{IsTriedOver}
+use Rattle.mt_c.proofs.Prelude.{subst, sym, Common, halted, knows, IsTriedOver}
 use Rattle.mt_c.proofs.Using.{on}
 use Rattle.mt_c.proofs.user.User.try_store_over.Goals as goal
 
