@@ -87,3 +87,6 @@ entry_above m first last entry index le lt =
     ap entry_of (below_holds_none m (part_stored first last entry ++ parts_above m last) first index (omega arith)
     ∙ stored_holds_none (parts_above m last) first last entry index (ends_below stored index lt))
     ∙ above_keeps m last index lt
+
+-- what an index has after a store: in its range, below it and above it
+pub ruleset entries_after = (entry_inside, entry_below, entry_above)

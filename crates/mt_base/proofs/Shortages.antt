@@ -55,3 +55,6 @@ first_calls_answered h k r rows empty legal first at =
       | inl answered ↦ answered
       | inr refused ↦ absurd (let late : 2339 ≤ k = first_short h k _ refused.shortage rows empty refused.short in omega arith)
     ]
+
+-- what a shortage says of the number of rows
+pub ruleset short_of_rows = (few_unheld, few_taken, first_short, first_calls_answered)

@@ -31,7 +31,7 @@ pub fn call_keeps_map()
 
 /// After a store, an index of its range has the entry that was stored (none if that is 0). Every other index has the entry that
 /// it had.
-#[tactic(auto, using(crate::proofs::ReadingAfterStore::entry_inside, crate::proofs::ReadingAfterStore::entry_below, crate::proofs::ReadingAfterStore::entry_above))]
+#[tactic(auto, using(crate::proofs::ReadingAfterStore::entries_after))]
 pub fn load_after_store()
     ensures inside { (m : List Range) (first last entry index : ℕ) → first ≤ index → index ≤ last
         → option_map (λ r. r.entry) (holding (over m first last entry) index) ≡ (if entry == 0 then None else Some entry) }
@@ -134,7 +134,7 @@ pub fn a_shortage_stays_one()
 /// What a shortage says of the number of nodes. If no node is held back, the tree has fewer than its levels and ranges need. It
 /// always has fewer than it opened with and its calls so far, this one included, may have taken. So a tree of 65,504 nodes that
 /// opens empty refuses none of its first 2,339 calls because nodes are short.
-#[tactic(auto, using(crate::proofs::Shortages::few_unheld, crate::proofs::Shortages::few_taken, crate::proofs::Shortages::first_short, crate::proofs::Shortages::first_calls_answered))]
+#[tactic(auto, using(crate::proofs::Shortages::short_of_rows))]
 pub fn a_shortage_has_few_rows()
     ensures unheld { (l : Limits) (m : List Range) (s : Shortage) → (short : IsShort l m s) → s.held ≡ 0 → l.rows < 3 * short.levels + 1 + length m / 2 + 2 }
     ensures taken { (l : Limits) (m : List Range) (s : Shortage) → IsShort l m s → l.rows < most_taken * (l.ended + 1) + l.opened }
