@@ -19,7 +19,7 @@ fn first_met<S: Store>(of: &S, first: u64, last: u64) -> Option<Range>
 }
 
 /// Stores `entry` over `first` to `last`.
-#[tactic(auto, using(mt_base::proofs::CallsKeepOrder::valid_order, mt_base::proofs::CallsKeepOrder::valid_within))]
+#[tactic(auto, using(mt_base::proofs::Lemmas::valid_order, mt_base::proofs::Lemmas::valid_within))]
 fn store<S: Store>(to: &mut S, first: u64, last: u64, entry: u64) -> Result<Reply, NoMemory>
     ensures acts { IfOk result (λ reply. acted (S.contents to.old).kind (S.contents to.old).ranges (Call.Store first last entry)
         ≡ ((S.contents to.new).ranges, reply)) }
@@ -35,7 +35,7 @@ fn store<S: Store>(to: &mut S, first: u64, last: u64, entry: u64) -> Result<Repl
 }
 
 /// Stores `entry` over `first` to `last` where no range holds any of these indexes.
-#[tactic(auto, using(mt_base::proofs::CallsKeepOrder::valid_order, mt_base::proofs::CallsKeepOrder::valid_within, mt_base::proofs::FirstMet::is_held_where_met))]
+#[tactic(auto, using(mt_base::proofs::Lemmas::valid_order, mt_base::proofs::Lemmas::valid_within, mt_base::proofs::Lemmas::is_held_where_met))]
 fn insert<S: Store>(to: &mut S, first: u64, last: u64, entry: u64) -> Result<Reply, NoMemory>
     ensures acts { IfOk result (λ reply. acted (S.contents to.old).kind (S.contents to.old).ranges (Call.Insert first last entry)
         ≡ ((S.contents to.new).ranges, reply)) }
