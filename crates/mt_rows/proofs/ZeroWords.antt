@@ -86,6 +86,11 @@ overwritten_put n at end w w' words fit few put = record {
   others = λ k outside. zeros_behind n w' k ∙ (put.others k outside ∙ (zeros_behind end w k ∙ sym (zeros_behind n w k)));
 }
 
+-- what the write of a word cites, and that of words
+pub ruleset set_zeros = (zeros_set_next, zeros_reach, zeros_fit, zeros_long)
+
+pub ruleset put_zeros = (appended_put, overwritten_put, zeros_reach, zeros_fit, zeros_long)
+
 -- the list that is read has as many words as are counted
 pub listed_long : (n : ℕ) (w old : List ℕ) → length w ≤ n → with_zeros n w ≡ old → length old ≡ n
 listed_long n w old fit seen = sym (ap length seen) ∙ zeros_long n w fit

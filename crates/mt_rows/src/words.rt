@@ -113,7 +113,7 @@ impl Words {
     }
 
     /// Writes a word at a place.
-    #[tactic(auto, using(crate::proofs::ZeroWords::zeros_set_next, crate::proofs::ZeroWords::zeros_reach, crate::proofs::ZeroWords::zeros_fit, crate::proofs::ZeroWords::zeros_long))]
+    #[tactic(auto, using(crate::proofs::ZeroWords::set_zeros))]
     pub(crate) fn set(&mut self, at: usize, word: u64)
         requires { at < length self.old.items }
         ensures { self.new.items ≡ slice_set self.old.items at word }
@@ -123,7 +123,7 @@ impl Words {
     }
 
     /// Writes these words from a place on.
-    #[tactic(auto, using(crate::proofs::ZeroWords::appended_put, crate::proofs::ZeroWords::overwritten_put, crate::proofs::ZeroWords::zeros_reach, crate::proofs::ZeroWords::zeros_fit, crate::proofs::ZeroWords::zeros_long))]
+    #[tactic(auto, using(crate::proofs::ZeroWords::put_zeros))]
     pub(crate) fn put(&mut self, at: usize, words: &[u64])
         requires { at + length words.now ≤ length self.old.items }
         ensures { ArePut at words.now self.old.items self.new.items }
