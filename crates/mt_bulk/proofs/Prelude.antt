@@ -4,7 +4,7 @@ pub use Rattle.mt_base.proofs.Std.{All-cons, All-nil, AllByRecursion, cases_Bool
 pub use Rattle.std.specs.Int.{div_ceil}
 pub use Rattle.mt_base.proofs.Lists.{all_back, all_front, all_map}
 pub use Rattle.mt_layout.proofs.Lemmas.{after, after-append, after_some, all_gaps_of, apart_anywhere, apart_back, apart_front, ends_anywhere, fills_end, fills_rise, gap_within, get_or-padded, item_or, layout_of, least-below-slots, length-row_words, length-spans_from, named_kind-name_at, reads_back, rise_from_zero, row_in-name_at, row_words-hold, same_items, some_columns, some_gaps_of, some_least, spans_fill, spans_from-append, two_hold_an_entry, used, used-gap}
-pub use Rattle.mt_rows.proofs.Lemmas.{expand-append, nine_levels, ranges_by_depth}
+pub use Rattle.mt_rows.proofs.Lemmas.{longest_below-append, longest_none, nine_levels, ranges_by_depth}
 pub use Rattle.mt_rows.specs.Names.{Apart, EntryLaw, Fills, GapLawBy, GapsFrom, HoleLaw, IsLawful, IsMap, IsMapFrom, IsRow, IsRowNumber, IsTended, Levels, Long, ParentsFrom, Rooted, Short, Span, Table, Tree, base_of, column, covers_all, deepest, expand, gap_column, greatest, items_at, items_in, kind_at, kind_on, leaf_range, least_items, least_of, least_of_root, longest_below, longest_in, map_in, map_of, root_of, root_span, row_in, row_spans, spans_by, spans_in, top_of, tree_made}
 pub use Rattle.mt_bulk.specs.Builds.{AreLaid, AreLanesFrom, AreLevels, FirstHasRoom, HasLeafFacts, HavePushed, IsBuilt, IsLeafLane, IsLevelOf, LeafFacts, above_leaves, heads_made, refused_by, too_many, whole_of, words_made, words_room}
 unfoldable pub use Rattle.mt_bulk.specs.Builds.{refusal}

@@ -1,5 +1,5 @@
 -- The parent words and the gap words of rows that are built.
-use Rattle.mt_bulk.proofs.Prelude.{◌≡◌, ℕ, zero, suc, ◌+◌, ◌*◌, ◌≤◌, Bool, List, [], ◌∷◌, ◌++◌, length, map, max, refl, sym, ap, ◌∙◌, subst, arith, length-append, append_assoc, slice_index, AllByRecursion, range_with_len, Width, columns, Item, RowKind, Span, end_of, row_words, FitRow, name_at, parent_at, row_in, slots_of, gaps_of, spans_from, longest_in, row_in-name_at, layout_of, some_columns, length-row_words, Table, column, expand, ParentsFrom, longest_below, expand-append, greatest_gap, heads, words_of}
+use Rattle.mt_bulk.proofs.Prelude.{◌≡◌, ℕ, zero, suc, ◌+◌, ◌*◌, ◌≤◌, Bool, List, [], ◌∷◌, ◌++◌, length, map, max, refl, sym, ap, ◌∙◌, subst, arith, length-append, append_assoc, slice_index, AllByRecursion, range_with_len, Width, columns, Item, RowKind, end_of, row_words, FitRow, name_at, parent_at, row_in, slots_of, gaps_of, spans_from, row_in-name_at, layout_of, some_columns, length-row_words, Table, column, ParentsFrom, longest_below, greatest_gap, heads, words_of, longest_below-append, longest_none}
 use Rattle.mt_bulk.proofs.Placed.{in_middle, next_row}
 
 -- ---- one after another
@@ -64,18 +64,6 @@ have_parents width kind number (parent ∷ parents) (row ∷ rows) front back sa
 
 -- ---- the longest holes
 
-longest_in_both : (xs ys : List Span) → longest_in (xs ++ ys) ≡ max (longest_in xs) (longest_in ys)
-longest_in_both [] ys = omega arith
-longest_in_both (x ∷ xs) ys = let behind = longest_in_both xs ys in omega arith
-
-pub longest_both : (t : Table) (h : ℕ) (xs ys : List Span) → longest_below t h (xs ++ ys) ≡ max (longest_below t h xs) (longest_below t h ys)
-longest_both t zero xs ys = ap longest_in (expand-append t xs ys) ∙ longest_in_both (expand t xs) (expand t ys)
-longest_both t (suc h) xs ys = ap (longest_below t h) (expand-append t xs ys) ∙ longest_both t h (expand t xs) (expand t ys)
-
-pub longest_none : (t : Table) (h : ℕ) → longest_below t h [] ≡ 0
-longest_none t zero = refl
-longest_none t (suc h) = longest_none t h
-
 -- each item tells the longest hole below it
 abbrev pub AreTold : Table → ℕ → ℕ → List Item → Type 0
 AreTold t h first [] = Unit {0}
@@ -86,7 +74,7 @@ greatest_told t h first [] told = longest_none t h
 greatest_told t h first (x ∷ items) told =
     let here = told.0 in
     let behind = greatest_told t h (x.last + 1) items told.1 in
-    longest_both t h (record { first = first; last = x.last; word = x.word } ∷ []) (spans_from (x.last + 1) items) ∙ (λ i. max (sym here i) (behind i))
+    longest_below-append t h (record { first = first; last = x.last; word = x.word } ∷ []) (spans_from (x.last + 1) items) ∙ (λ i. max (sym here i) (behind i))
 
 pub told_front : (t : Table) (h first : ℕ) (xs ys : List Item) → AreTold t h first (xs ++ ys) → AreTold t h first xs
 told_front t h first [] ys told = tt
