@@ -1,4 +1,5 @@
 pub mod Gapless
+pub mod GreatestGap
 pub mod NameLaws
 pub mod OwnColumns
 pub mod Places

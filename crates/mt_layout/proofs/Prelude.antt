@@ -4,7 +4,7 @@ pub use Rattle.mt_base.proofs.Std.{cases_Bool, cases_eq, cases_lt, common_steps,
 pub use Rattle.std.proofs.lemmas.Nat.{div-mul-add, mod-mul-add, mul-add-lt}
 pub use borrow.Rule.Slice.PartMut.{put_mid}
 pub use Rattle.mt_base.proofs.WidthBounds.{many_columns}
-pub use Rattle.mt_layout.specs.Columns.{FitRow, IsLayout, NoGaps, RiseFrom, end_of, gap_at, gap_column, gap_words, item_at, items_at, items_from, longest_hole, padded_to, pivot_column, pivot_words, row_words, slot_column, slot_words}
+pub use Rattle.mt_layout.specs.Columns.{FitRow, IsLayout, NoGaps, RiseFrom, end_of, gap_at, gap_column, gap_words, greatest_gap, item_at, items_at, items_from, longest_hole, padded_to, pivot_column, pivot_words, row_words, slot_column, slot_words}
 pub use Rattle.mt_layout.specs.Prelude.{Long, Range, Short, Width, columns, first_row}
 pub use Rattle.mt_layout.specs.Rows.{IsRowNumber, Names, dead_mark, name_at, named_kind, named_row, parent_at, row_in}
 pub use Rattle.mt_layout.specs.Sizes.{gaps_of, least_items, run_room, slots_of}

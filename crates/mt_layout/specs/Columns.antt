@@ -1,10 +1,11 @@
 -- The columns (words) of a row (a node): a parent word, pivots, slots and gaps. And the items that are read from them.
 -- Source: the kernel's lib/maple_tree.c, ma_pivots, ma_slots and ma_gaps of maple_range_64 and maple_arange_64. A node has
 -- `slots` slots, and as many gaps or none. Column c of the node that begins at `base` is the word base + c.
-use Rattle.std.specs.Prelude.{◌≡◌, ℕ, zero, suc, ◌+◌, ◌-◌, ◌*◌, ◌≤◌, ◌<◌, ◌==◌, List, [], ◌∷◌, ◌++◌, length, map, take, replicate, nat_le, slice_index, if◌then◌else◌}
+use Rattle.std.specs.Prelude.{◌≡◌, ℕ, zero, suc, ◌+◌, ◌-◌, ◌*◌, ◌≤◌, ◌<◌, ◌==◌, List, [], ◌∷◌, ◌++◌, length, map, max, take, replicate, nat_le, slice_index, if◌then◌else◌}
 use Rattle.mt_layout.specs.Prelude.{Width, columns}
 use Rattle.mt_layout.specs.declared.items.Item.{Item}
 use Rattle.mt_layout.specs.declared.names.RowKind.{RowKind}
+use Rattle.mt_layout.specs.declared.names.RowKind.TheVariants as kinds
 use Rattle.mt_layout.specs.Sizes.{slots_of, gaps_of}
 use Rattle.mt_layout.specs.Spans.{spans_from, longest_in}
 
@@ -91,3 +92,14 @@ pub record FitRow (slots gaps : ℕ) (items : List Item) : Type 0 where
 -- the number of indexes of the longest hole of a leaf whose first item begins at `min`
 abbrev pub longest_hole : ℕ → List Item → ℕ
 longest_hole min items = longest_in (spans_from min items)
+
+-- the greatest gap of items
+abbrev pub greatest_gap : List Item → ℕ
+greatest_gap [] = 0
+greatest_gap (x ∷ items) = max x.gap (greatest_gap items)
+
+-- the longest hole below a node of a tree with gaps: among a leaf's items, or by the gaps of its children
+abbrev pub longest_under : RowKind → ℕ → List Item → ℕ
+longest_under kinds.Leaf first items = longest_hole first items
+longest_under kinds.Inner first items = greatest_gap items
+longest_under kinds.Gapped first items = greatest_gap items

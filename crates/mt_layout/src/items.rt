@@ -1,6 +1,8 @@
 ghost use Rattle.std.specs.Prelude.{◌≡◌, ◌≢◌, ◌+◌, ◌<◌, Any};
-ghost use Rattle.mt_layout.specs.Columns.{RiseFrom, longest_hole};
+ghost use Rattle.mt_layout.specs.Columns.{RiseFrom, greatest_gap, longest_hole, longest_under};
+ghost use Rattle.mt_layout.specs.declared.names.RowKind.TheVariants.{Leaf};
 
+use crate::names::RowKind;
 use crate::sizes::RUN_ROOM;
 use arrayvec::ArrayVec;
 
@@ -37,4 +39,23 @@ pub fn gap_of(items: &[Item], min: u64) -> u64
         longest = longest.max(first.last - min + 1);
     }
     longest
+}
+
+/// The greatest gap of the items.
+fn greatest_gap(items: &[Item]) -> u64
+    ensures { result ≡ greatest_gap items.now }
+{
+    items.iter().fold(0, |gap, item| gap.max(item.gap))
+}
+
+/// The longest hole below a node of a tree with gaps. Its first item begins at `min`.
+pub fn longest_under(kind: RowKind, items: &[Item], min: u64) -> u64
+    requires rise { RiseFrom min items.now }
+    requires entry { kind ≡ Leaf → Any (λ x. x.word ≢ 0) items.now }
+    ensures { result ≡ longest_under kind min items.now }
+{
+    match kind {
+        RowKind::Leaf => gap_of(items, min),
+        RowKind::Inner | RowKind::Gapped => greatest_gap(items),
+    }
 }

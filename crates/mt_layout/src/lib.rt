@@ -8,7 +8,7 @@ mod names;
 mod sizes;
 mod spans;
 
-pub use items::{Item, Run, gap_of};
+pub use items::{Item, Run, gap_of, longest_under};
 pub use laws::{
     items_are_in_own_columns, names_are_read_back, what_is_not_read_is_no_name,
     what_is_read_is_a_name,
