@@ -15,7 +15,7 @@ pub use Rattle.mt_base.specs.declared.replies.Reply.TheVariants.{NoNodes}
 pub use Rattle.mt_base.specs.declared.replies.Shortage.{Shortage}
 pub use Rattle.mt_base.specs.declared.widths.Width.{Width}
 pub use Rattle.mt_base.specs.declared.widths.Width.TheVariants.{Long, Short}
-pub use Rattle.mt_layout.specs.Names.{Apart, BeginsFull, EndsFull, Fills, FitRow, IsLayout, IsRowNumber, NoGaps, RiseFrom, dead_mark, end_of, gap_at, gap_column, gaps_of, hole_length, item_at, items_at, items_from, kind_number, leaf_range, least_items, longest_hole, longest_in, name_at, named_kind, named_row, padded_to, parent_at, pivot_column, row_in, row_words, run_room, slot_column, slots_of, spans_from}
+pub use Rattle.mt_layout.specs.Names.{Apart, BeginsFull, EndsFull, Fills, FitRow, IsLayout, IsRowNumber, NoGaps, RiseFrom, dead_mark, end_of, gap_at, gap_column, gaps_of, greatest_gap, hole_length, item_at, items_at, items_from, kind_number, leaf_range, least_items, longest_hole, longest_in, longest_under, name_at, named_kind, named_row, padded_to, parent_at, pivot_column, row_in, row_words, run_room, slot_column, slots_of, spans_from}
 pub use Rattle.mt_layout.specs.declared.items.Item.{Item}
 pub use Rattle.mt_layout.specs.declared.names.RowKind.{RowKind}
 pub use Rattle.mt_layout.specs.declared.names.RowKind.TheVariants.{Gapped, Inner, Leaf}
