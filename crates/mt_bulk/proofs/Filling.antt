@@ -1,5 +1,5 @@
 -- Rows of a chunk, one after another: what each begins with, and what is behind it.
-use Rattle.mt_bulk.proofs.Prelude.{◌≡◌, ℕ, zero, suc, ◌+◌, ◌-◌, ◌<◌, ◌≤◌, Bool, List, [], ◌∷◌, ◌++◌, length, map, max, take, drop, refl, sym, ap, ◌∙◌, subst, arith, length-take, length-drop, append_assoc, zero-add, slice_index, slice_index_or, drop_all, drop_more, take-append-drop, Kind, columns, Width, Item, RowKind, end_of, row_words, RiseFrom, name_at, slots_of, gaps_of, after, after-append, after_some, gap_below, greatest_gap, heads, words_of, CanFill, begins_at, rows_between}
+use Rattle.mt_bulk.proofs.Prelude.{◌≡◌, ℕ, zero, suc, ◌+◌, ◌-◌, ◌<◌, ◌≤◌, Bool, List, [], ◌∷◌, ◌++◌, length, map, take, drop, refl, sym, ap, ◌∙◌, subst, arith, length-take, length-drop, append_assoc, zero-add, slice_index, slice_index_or, drop_more, take-append-drop, Kind, columns, Width, Item, RowKind, end_of, row_words, RiseFrom, name_at, slots_of, gaps_of, after, after-append, after_some, gap_below, heads, words_of, CanFill, begins_at, rows_between}
 use Rattle.mt_bulk.proofs.Rows.{rise_front}
 
 -- ---- where rows begin
@@ -74,14 +74,6 @@ begins_last items zero none some within = absurd (omega arith)
 begins_last items (suc from) none some within =
     let place : suc from - 1 ≡ from = omega arith in
     sym (ap (λ (n : ℕ). n + 1) (last_at items from none (omega arith)) ∙ ap (λ (n : ℕ). (slice_index_or items n none).last + 1) (sym place))
-
--- ---- the greatest gap, one item after another
-
-pub greatest_next : (items : List Item) (at : ℕ) (none : Item) → at < length items → greatest_gap (drop at items) ≡ max (slice_index_or items at none).gap (greatest_gap (drop (at + 1) items))
-greatest_next items at none within = ap greatest_gap (drop_more items at none within)
-
-pub greatest_none : (items : List Item) (at : ℕ) → length items ≤ at → greatest_gap (drop at items) ≡ 0
-greatest_none items at past = ap greatest_gap (drop_all at items past)
 
 -- ---- a row more
 

@@ -1,9 +1,9 @@
 -- The words of a tree that is built at once from its ranges: the leaves first, then each level above them, from the left.
 -- Source: this project's own.
-use Rattle.std.specs.Prelude.{ℕ, Bool, true, false, zero, suc, ◌+◌, ◌/◌, ◌==◌, max, List, [], ◌∷◌, ◌++◌, length, map, if◌then◌else◌}
+use Rattle.std.specs.Prelude.{ℕ, Bool, true, false, zero, suc, ◌+◌, ◌/◌, ◌==◌, List, [], ◌∷◌, ◌++◌, length, map, if◌then◌else◌}
 use Rattle.std.specs.Int.{div_ceil}
 use Rattle.std.specs.List.{range_with_len}
-use Rattle.mt_bulk.specs.Prelude.{Kind, Range, Width, finds_room, columns, first_row, kind_width, Item, RowKind, end_of, longest_hole, row_words, name_at, parent_at, slots_of, gaps_of, inner_kind, inner_of}
+use Rattle.mt_bulk.specs.Prelude.{Kind, Range, Width, finds_room, columns, first_row, kind_width, Item, RowKind, end_of, longest_under, row_words, name_at, parent_at, slots_of, gaps_of, inner_kind, inner_of}
 use Rattle.mt_layout.specs.declared.names.RowKind.TheVariants as kinds
 use Rattle.mt_bulk.specs.Cuts.{cut, leaf_size, inner_size}
 use Rattle.mt_bulk.specs.Items.{items_of}
@@ -23,17 +23,10 @@ abbrev pub rows_up : Width → Bool → ℕ → ℕ → ℕ
 rows_up width gapped zero rows = 0
 rows_up width gapped (suc left) rows = if rows == 1 then 1 else rows + rows_up width gapped left (div_ceil rows (inner_slots width gapped))
 
--- the greatest gap of the items
-abbrev pub greatest_gap : List Item → ℕ
-greatest_gap [] = 0
-greatest_gap (x ∷ items) = max x.gap (greatest_gap items)
-
 -- the longest hole below a node that begins at `first`, if the tree keeps gaps
 abbrev pub gap_below : Bool → RowKind → ℕ → List Item → ℕ
 gap_below false kind first items = 0
-gap_below true kinds.Leaf first items = longest_hole first items
-gap_below true kinds.Inner first items = greatest_gap items
-gap_below true kinds.Gapped first items = greatest_gap items
+gap_below true kind first items = longest_under kind first items
 
 -- the items of the level above: one for each node; the first begins at `first` and has this number
 abbrev pub heads : Bool → RowKind → ℕ → ℕ → List (List Item) → List Item

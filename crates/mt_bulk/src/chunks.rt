@@ -1,6 +1,6 @@
 //! A chunk of the nodes of a level, and its work: the words of the nodes, and their items on the level above.
 
-ghost use Rattle.std.specs.Prelude.{◌≡◌, ◌≢◌, true, ◌+◌, ◌*◌, ◌-◌, ◌<◌, ◌≤◌, ◌++◌, ◌∷◌, [], Any, length, vec_len, vec_capacity};
+ghost use Rattle.std.specs.Prelude.{◌≡◌, ◌≢◌, ◌+◌, ◌*◌, ◌-◌, ◌<◌, ◌≤◌, ◌++◌, ◌∷◌, [], Any, length, vec_len, vec_capacity};
 ghost use Rattle.mt_base.specs.Call.{finds_room};
 ghost use Rattle.mt_base.specs.Width.{columns, kind_width};
 ghost use Rattle.mt_layout.specs.Columns.{FitRow, RiseFrom, end_of, row_words};
@@ -10,7 +10,7 @@ ghost use Rattle.mt_bulk.specs.Bulk as defined;
 ghost use Rattle.mt_bulk.specs.Chunks.{AreRows, begins_at, heads_in, view_of, chunk_words};
 
 use mt_base::{Kind, Width, cols, finds_room, width_of};
-use mt_layout::{Item, MOST_WORDS, RowKind, gap_of, name_of, words_of};
+use mt_layout::{Item, MOST_WORDS, RowKind, longest_under, name_of, words_of};
 
 /// Nodes of a level, one after another. Of the level's items: the place where the first of these nodes begins, where each of
 /// them ends, and the parent word of each.
@@ -26,30 +26,6 @@ pub struct Chunk<'a> {
     pub parents: &'a [u64],
 }
 
-/// The greatest gap of the items.
-#[tactic(auto, using(crate::proofs::Filling::greatest_next, crate::proofs::Filling::greatest_none))]
-fn greatest_gap(items: &[Item]) -> u64
-    ensures { result ≡ defined.greatest_gap items.now }
-{
-    let mut greatest = 0;
-    for at in 0..items.len() {
-        greatest = greatest.max(items[at].gap);
-    }
-    greatest
-}
-
-/// The longest hole below a node of a tree with gaps.
-fn longest_below(kind: RowKind, first: u64, row: &[Item]) -> u64
-    requires rise { RiseFrom first row.now }
-    requires entry { Any (λ x. x.word ≢ 0) row.now }
-    ensures { result ≡ defined.gap_below true kind first row.now }
-{
-    match kind {
-        RowKind::Leaf => gap_of(row, first),
-        RowKind::Inner | RowKind::Gapped => greatest_gap(row),
-    }
-}
-
 /// The longest hole below a node, if its tree keeps gaps.
 fn gap_below(gapped: bool, kind: RowKind, first: u64, row: &[Item]) -> u64
     requires rise { RiseFrom first row.now }
@@ -57,7 +33,7 @@ fn gap_below(gapped: bool, kind: RowKind, first: u64, row: &[Item]) -> u64
     ensures { result ≡ defined.gap_below gapped kind first row.now }
 {
     if gapped {
-        longest_below(kind, first, row)
+        longest_under(kind, row, first)
     } else {
         0
     }
