@@ -1,5 +1,5 @@
 -- The gaps of items, and the law of gaps of a row by its items.
-use Rattle.mt_splice.proofs.Prelude.{◌≡◌, ℕ, zero, suc, ◌+◌, ◌*◌, List, [], ◌∷◌, Option, Some, fold, map, max, refl, sym, ap, ◌∙◌, subst, arith, append-nil, AllByRecursion, Width, columns, Item, RowKind, Leaf, Inner, Gapped, Span, row_in, named_kind, longest_hole, slots_of, gaps_of, spans_from, longest_in, same_items, layout_of, Table, inner_of, spans_by, spans_in, expand, Levels, SameColumns, Tree, IsRow, GapLaw, GapLawBy, GapsFrom, items_in, longest_below, Shared, expand_shared, levels_front, levels_back, same_spans, levels_map, AreGapsAt, gaps_read, longest_below-append, longest_none, longest_shared, longest_holes, TellGaps, table_with, tree_with}
+use Rattle.mt_splice.proofs.Prelude.{◌≡◌, ℕ, zero, suc, ◌+◌, ◌*◌, List, [], ◌∷◌, Option, Some, map, max, refl, sym, ap, ◌∙◌, subst, append-nil, AllByRecursion, Width, columns, Item, RowKind, Leaf, Inner, Gapped, Span, row_in, named_kind, longest_hole, slots_of, gaps_of, spans_from, longest_in, same_items, layout_of, Table, inner_of, spans_by, spans_in, expand, Levels, SameColumns, Tree, IsRow, GapLaw, GapLawBy, GapsFrom, items_in, longest_below, Shared, expand_shared, levels_front, levels_back, same_spans, levels_map, AreGapsAt, gaps_read, longest_below-append, longest_none, longest_shared, longest_holes, TellGaps, table_with, tree_with, greatest_gap}
 
 -- ---- the longest hole below rows
 
@@ -95,28 +95,21 @@ module _ (t : Tree) (words : List ℕ) where
 
 -- ---- what a row tells the row above
 
-abbrev greatest : List ℕ → ℕ
-greatest [] = 0
-greatest (n ∷ ns) = max n (greatest ns)
-
-greatest_so_far : (n : ℕ) (items : List Item) → fold (λ (g : ℕ) (x : Item). max g x.gap) n items ≡ max n (greatest (map (λ (x : Item). x.gap) items))
-greatest_so_far n [] = omega arith
-greatest_so_far n (x ∷ items) = greatest_so_far (max n x.gap) items ∙ regroup n x.gap (greatest (map (λ (y : Item). y.gap) items))
-  where
-    regroup : (a b c : ℕ) → max (max a b) c ≡ max a (max b c)
-    regroup a b c = omega arith
-
-longest_is_greatest : (t : Table) (h : ℕ) (xs : List Span) → longest_below t h xs ≡ greatest (longest_holes t h xs)
-longest_is_greatest t h [] = longest_none t h
-longest_is_greatest t h (x ∷ xs) = longest_below-append t h (x ∷ []) xs ∙ ap (λ (k : ℕ). max (longest_below t h (x ∷ [])) k) (longest_is_greatest t h xs)
+-- items whose gaps are told have the longest hole below as their greatest gap
+greatest_told : (t : Table) (h : ℕ) (items : List Item) (xs : List Span) → map (λ (x : Item). x.gap) items ≡ longest_holes t h xs → greatest_gap items ≡ longest_below t h xs
+greatest_told t h [] [] told = sym (longest_none t h)
+greatest_told t h [] (x ∷ xs) told = absurd cc
+greatest_told t h (x ∷ items) [] told = absurd cc
+greatest_told t h (i ∷ items) (x ∷ xs) told =
+    let here : i.gap ≡ longest_below t h (x ∷ []) = cc in
+    let others : map (λ (y : Item). y.gap) items ≡ longest_holes t h xs = cc in
+    let behind = greatest_told t h items xs others in
+    (λ k. max (here k) (behind k)) ∙ sym (longest_below-append t h (x ∷ []) xs)
 
 -- below a leaf it is the longest hole among its items, and below another row with gaps the greatest of these
 pub leaf_longest : (t : Table) (x : Span) (first : ℕ) (items : List Item) → spans_in t x ≡ spans_from first items → longest_hole first items ≡ longest_below t 0 (x ∷ [])
 leaf_longest t x first items is = sym (ap longest_in (append-nil (spans_in t x) ∙ is))
 
 pub inner_longest : (t : Table) (h : ℕ) (x : Span) (first : ℕ) (items : List Item) → spans_in t x ≡ spans_from first items → TellGaps Gapped t h first items
-    → fold (λ (g : ℕ) (y : Item). max g y.gap) 0 items ≡ longest_below t (suc h) (x ∷ [])
-inner_longest t h x first items is told =
-    let so_far = greatest_so_far 0 items in
-    let all : fold (λ (g : ℕ) (y : Item). max g y.gap) 0 items ≡ greatest (map (λ (y : Item). y.gap) items) = omega arith in
-    all ∙ (ap greatest told ∙ (sym (longest_is_greatest t h (spans_from first items)) ∙ sym (ap (longest_below t h) (append-nil (spans_in t x) ∙ is))))
+    → greatest_gap items ≡ longest_below t (suc h) (x ∷ [])
+inner_longest t h x first items is told = greatest_told t h items (spans_from first items) told ∙ sym (ap (longest_below t h) (append-nil (spans_in t x) ∙ is))

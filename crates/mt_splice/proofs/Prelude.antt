@@ -9,7 +9,7 @@ pub use Rattle.mt_base.proofs.Lemmas.{all_back, all_front, all_join, all_map, fe
 pub use Rattle.mt_layout.proofs.Lemmas.{Holds, IsItem, Names-named_kind, after, after-append, after_some, apart_anywhere, apart_back, apart_front, ends, few_items, fills-append, fills_after, fills_end, fills_items, fills_le, fills_parts, fills_rise, fills_split, full-append, full_back, goes_on, last_ends, layout_of, length-spans_from, named_kind-name_at, no_gaps-cons, no_gaps_of, none_filled, other_place, place_within, reads_back, rise_from_zero, row_in-name_at, row_within, row_words-hold, same_items, sizes, slot_above, slot_within, slots_of-columns, some_columns, some_filled, some_gaps_of, some_least, spans-append, spans-drop, spans-take, two_hold_an_entry}
 pub use Rattle.mt_rows.proofs.Lemmas.{AreGapsAt, Filled, Implies, IsOneOf, OnLevel, Shared, all_both, all_expand, all_of_each, all_one_of, below_on_level, covers_it, expand-append, expand_fills, expand_shared, gaps_read, height_by_depth, height_is, here_le, inner_no_leaf, items_at-put, leaf_between, leaf_low, level_is_below, level_next, level_rows, level_shared, levels_at, levels_back, levels_both, levels_from, levels_front, levels_here, levels_join, levels_lower, levels_map, levels_pair, levels_shared, levels_upper, longest_below-append, longest_none, longest_shared, map_of_shared, map_of_split, nine_levels, on_level_law, on_level_reached, once_in, one_of_either, one_of_expand, one_of_get, one_of_left, one_of_parts, one_of_right, one_place, over_between, published_rows, published_width, put_item, ranges_by_depth, reads_on, row_most, same_spans, same_tree, stands_at, stays_in_place, tally-append, tally_place, tally_some, times_in_once, times_reached, times_shared, times_split, upper_both, upper_more, upper_shared}
 pub use Rattle.mt_rows.proofs.RowLaws.{name_some, others_keep, row_keeps, row_put, slot_fits}
-pub use Rattle.mt_rows.specs.Names.{AreDrafted, BeginsFull, ChangesRows, EntryLaw, FitRow, GapLawBut, GapLawButBy, GapLawBy, GapsFrom, GapsFromBut, HasDied, HasWords, HoleLaw, IsKnown, IsLawful, IsPlaceToPublish, IsSlotOf, IsTended, IsTree, KeepsPlace, MayPublish, MayTend, NoGaps, ParentsFrom, Published, SameHoles, SameSpans, covers, covers_all, deepest, gap_at, gap_column, inner_kind, item_at, items_from, items_in, least_of_root, life_after, loaded, longest_in, map_in, most_rows, most_taken, named_kind, new_sheet, one_if, padded_to, pivot_column, reached_in, row_spans, run_room, spans_by, tended, tree_on, with_child, with_slot, with_word, words_in}
+pub use Rattle.mt_rows.specs.Names.{AreDrafted, BeginsFull, ChangesRows, EntryLaw, FitRow, GapLawBut, GapLawButBy, GapLawBy, GapsFrom, GapsFromBut, HasDied, HasWords, HoleLaw, IsKnown, IsLawful, IsPlaceToPublish, IsSlotOf, IsTended, IsTree, KeepsPlace, MayPublish, MayTend, NoGaps, ParentsFrom, Published, SameHoles, SameSpans, covers, covers_all, deepest, gap_at, gap_column, greatest_gap, inner_kind, item_at, items_from, items_in, least_of_root, life_after, loaded, longest_hole, longest_in, map_in, most_rows, most_taken, named_kind, new_sheet, one_if, padded_to, pivot_column, reached_in, row_spans, run_room, spans_by, tended, tree_on, with_child, with_slot, with_word, words_in}
 pub use Rattle.mt_free.proofs.Books.{book, retire_leaves_book, take_leaves_book}
 pub use Rattle.mt_free.proofs.Rows.{AreApart}
 pub use Rattle.mt_free.proofs.StillOut.{out_after_retire}
@@ -32,7 +32,7 @@ pub use Rattle.mt_path.specs.Paths.{below, path_of, span_at}
 unfoldable pub use Rattle.mt_path.specs.Paths.{row_on}
 pub use Rattle.mt_splice.specs.Fewest.{AreFewestOf, FewestBelow, IsCutOf}
 pub use Rattle.mt_splice.specs.Kept.{IsBookOf, IsConsistent, IsUnheld, IsUnpublished}
-pub use Rattle.mt_splice.specs.Prelude.{Apart, Book, Call, Dead, Draft, EndsFull, Fills, GapLaw, Gapped, HasGapsBut, StampedRow, Inner, IsBelow, IsBook, IsFree, IsLawfulOf, IsOut, IsPlace, IsReached, IsRow, IsRowOf, IsSlotAt, IsToldKind, IsTreeOf, IsWhole, Item, KeepsGaps, Kind, Leaf, Levels, Life, Live, LiveAreReached, MayBury, New, NoneBuried, OnlyReads, PathStep, Place, Range, Reply, RiseFrom, Root, Rooted, RowKind, SameColumns, Sheet, Slot, Span, Stands, StandsAt, Table, Tree, Width, acted, after_bury, after_retire, base_of, column, columns, dead_mark, edited, end_of, expand, finds_room, first_row, gaps_of, greatest, height_in, inner_of, is_buried, is_reached, is_row_of, items_at, kind_on, kind_width, last_step, leaf_range, leaf_spans, least_items, least_of, level, life_of, longest_below, longest_hole, map_by, map_of, name_at, named_row, over, parent_at, path_in, reserved, root_of, root_span, row_in, row_words, slot_column, slot_for, slots_of, spans_from, spans_in, starting, step_at, step_in, tally, times, top_of, tree_as, with_joined, with_published, with_record, word_at}
+pub use Rattle.mt_splice.specs.Prelude.{Apart, Book, Call, Dead, Draft, EndsFull, Fills, GapLaw, Gapped, HasGapsBut, StampedRow, Inner, IsBelow, IsBook, IsFree, IsLawfulOf, IsOut, IsPlace, IsReached, IsRow, IsRowOf, IsSlotAt, IsToldKind, IsTreeOf, IsWhole, Item, KeepsGaps, Kind, Leaf, Levels, Life, Live, LiveAreReached, MayBury, New, NoneBuried, OnlyReads, PathStep, Place, Range, Reply, RiseFrom, Root, Rooted, RowKind, SameColumns, Sheet, Slot, Span, Stands, StandsAt, Table, Tree, Width, acted, after_bury, after_retire, base_of, column, columns, dead_mark, edited, end_of, expand, finds_room, first_row, gaps_of, greatest, height_in, inner_of, is_buried, is_reached, is_row_of, items_at, kind_on, kind_width, last_step, leaf_range, leaf_spans, least_items, least_of, level, life_of, longest_below, map_by, map_of, name_at, named_row, over, parent_at, path_in, reserved, root_of, root_span, row_in, row_words, slot_column, slot_for, slots_of, spans_from, spans_in, starting, step_at, step_in, tally, times, top_of, tree_as, with_joined, with_published, with_record, word_at}
 pub use Rattle.mt_splice.specs.Splice.{HasFewest, HasParents, IsBooked, IsSpliced, MayClear, MayReplace, MaySplice, TellsBelow, TellsGapAt, WasPublishedAt, is_unreached, region_of}
 pub use Rattle.mt_splice.specs.declared.burying.Child.{Child}
 pub use Rattle.mt_splice.specs.declared.climbing.Climb.{Climb}

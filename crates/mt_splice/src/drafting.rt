@@ -7,7 +7,7 @@ ghost use Rattle.mt_layout.specs.Columns.{RiseFrom};
 ghost use Rattle.mt_layout.specs.Rows.{IsRowNumber};
 ghost use Rattle.mt_layout.specs.Sizes.{slots_of};
 ghost use Rattle.mt_rows.specs.Sheet.{IsFree, life_of};
-ghost use Rattle.mt_splice.specs.steps.Told.{greatest_gap, told_gap};
+ghost use Rattle.mt_splice.specs.steps.Told.{told_gap};
 ghost use Rattle.mt_splice.specs.steps.Drafting.{IsRowTaken, IsPieceDrafted, noted_row, MayDraftRows, AreRowsDrafted};
 
 use crate::reads::first_in;
@@ -15,7 +15,7 @@ use crate::ways::{Level, Pieces};
 use crate::writes::{NewRow, NewRows, draft_row_of};
 use arrayvec::ArrayVec;
 use mt_free::RowBook;
-use mt_layout::{Item, RowKind, gap_of, name_of};
+use mt_layout::{Item, RowKind, longest_under, name_of};
 use mt_rows::Rows;
 
 /// A row that was drafted, and the item that it is one level up.
@@ -46,13 +46,6 @@ fn draft_row<R: Rows>(rows: &mut R, book: &mut RowBook, kind: RowKind, items: &[
     row
 }
 
-/// The greatest gap of the items of a node.
-fn greatest_gap(items: &[Item]) -> u64
-    ensures { result ≡ greatest_gap items.now }
-{
-    items.iter().fold(0, |gap, item| gap.max(item.gap))
-}
-
 /// What a node with these items, the first of which begins at `first`, gives the node above: the longest hole below it, if
 /// nodes above have gaps.
 fn told_gap(above: RowKind, kind: RowKind, first: u64, items: &[Item]) -> u64
@@ -60,10 +53,9 @@ fn told_gap(above: RowKind, kind: RowKind, first: u64, items: &[Item]) -> u64
     requires entry { kind ≡ Leaf → Any (λ x. x.word ≢ 0) items.now }
     ensures { result ≡ told_gap above kind first items.now }
 {
-    match (above, kind) {
-        (RowKind::Leaf | RowKind::Inner, _) => 0,
-        (RowKind::Gapped, RowKind::Leaf) => gap_of(items, first),
-        (RowKind::Gapped, RowKind::Inner | RowKind::Gapped) => greatest_gap(items),
+    match above {
+        RowKind::Leaf | RowKind::Inner => 0,
+        RowKind::Gapped => longest_under(kind, items, first),
     }
 }
 

@@ -1,7 +1,7 @@
 -- Items with their gaps, and the law of gaps while a tree is replaced.
 -- Source: the kernel's lib/maple_tree.c, mas_leaf_max_gap and ma_max_gap, by which a node's gap reaches its parent.
-use Rattle.std.specs.Prelude.{◌≡◌, ◌≤◌, ℕ, Bool, List, [], ◌∷◌, Option, Some, None, fold, map, max}
-use Rattle.mt_splice.specs.Prelude.{Item, RowKind, Leaf, Inner, Gapped, Span, longest_hole, spans_from, Table, Levels, Tree, GapLaw, longest_below, KeepsGaps, root_of}
+use Rattle.std.specs.Prelude.{◌≡◌, ◌≤◌, ℕ, Bool, List, [], ◌∷◌, Option, Some, None, map}
+use Rattle.mt_splice.specs.Prelude.{Item, RowKind, Leaf, Inner, Gapped, Span, longest_under, spans_from, Table, Levels, Tree, GapLaw, longest_below, KeepsGaps, root_of}
 use Rattle.mt_splice.specs.steps.Starts.{Start}
 
 -- ---- the gaps of items
@@ -16,18 +16,12 @@ TellGaps Leaf t h first items = Unit {0}
 TellGaps Inner t h first items = Unit {0}
 TellGaps Gapped t h first items = map (λ (x : Item). x.gap) items ≡ longest_holes t h (spans_from first items)
 
--- the greatest gap of items
-abbrev pub greatest_gap : List Item → ℕ
-greatest_gap items = fold (λ (gap : ℕ) (x : Item). max gap x.gap) 0 items
-
 -- What a node of this kind gives the node above, if the nodes above are of the kind `above`: its longest hole, if these have
 -- gaps. Its first item begins at `first`.
 abbrev pub told_gap : RowKind → RowKind → ℕ → List Item → ℕ
 told_gap Leaf kind first items = 0
 told_gap Inner kind first items = 0
-told_gap Gapped Leaf first items = longest_hole first items
-told_gap Gapped Inner first items = greatest_gap items
-told_gap Gapped Gapped first items = greatest_gap items
+told_gap Gapped kind first items = longest_under kind first items
 
 -- ---- the law of gaps
 
