@@ -2,7 +2,7 @@
 pub use Rattle.mt_layout.proofs.Gapless.{no_gaps-cons}
 pub use Rattle.mt_layout.proofs.NameLaws.{Names-named_kind, named_kind-name_at, row_in-name_at}
 pub use Rattle.mt_layout.proofs.OwnColumns.{same_items}
-pub use Rattle.mt_layout.proofs.Places.{one_row_more, other_column, other_place, place_behind, place_within, row_within, same_place, words_before, words_in_all}
+pub use Rattle.mt_layout.proofs.Places.{one_row_more, other_column, other_place, place_within, row_within, same_place, word_behind, words_before, words_in_all}
 pub use Rattle.mt_layout.proofs.ReadBack.{Holds, reads_back, row_words-hold}
 pub use Rattle.mt_layout.proofs.Reading.{IsItem, ends, few_items, gap_at-none, gap_at-some, goes_on, read_all, read_last, read_more, some_items}
 pub use Rattle.mt_layout.proofs.RowSizes.{all_gaps, all_gaps_of, few_slots_of, gap_above, gap_within, layout_of, least-below-slots, least_four, least_six, no_gaps_of, sizes, slot_above, slot_within, slots-fit, slots_of-columns, slots_of-room, some_columns, some_gaps_of, some_least, some_slots, some_slots_of}

@@ -33,8 +33,8 @@ pub row_within : (width : Width) (row rows : ℕ) → row < rows → columns wid
 row_within width row rows below = let most = mul-le-mul_left (columns width) (let next : row + 1 ≤ rows = omega arith in next) in omega (arith, most)
 
 -- and behind those of the rows before it
-pub place_behind : (width : Width) (row first c : ℕ) → first ≤ row → columns width * first ≤ columns width * row + c
-place_behind width row first c from = let least = mul-le-mul_left (columns width) from in omega (arith, least)
+pub word_behind : (width : Width) (row first c : ℕ) → first ≤ row → columns width * first ≤ columns width * row + c
+word_behind width row first c from = let least = mul-le-mul_left (columns width) from in omega (arith, least)
 
 -- so many words stand before the first row, and so many there are in all
 pub words_before : (width : Width) → 512 ≤ columns width * first_row

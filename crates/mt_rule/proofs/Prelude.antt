@@ -9,7 +9,7 @@ pub use lib.Seq.{set-get_or}
 pub use mathlib.Core.Option.{none, some, some-injective, some-ne-none}
 pub use native.Mathlib.Decide.{dec_le}
 pub use Rattle.mt_base.proofs.Lemmas.{IsActed, all_join, all_map, begins_long, begins_none, begins_on, was_acted}
-pub use Rattle.mt_layout.proofs.Lemmas.{few_items, gap_above, length-spans_from, place_behind, place_within, slots_of-columns, words_before, words_in_all}
+pub use Rattle.mt_layout.proofs.Lemmas.{few_items, gap_above, length-spans_from, place_within, slots_of-columns, word_behind, words_before, words_in_all}
 pub use Rattle.mt_rows.proofs.Lemmas.{by_inner, by_leaf, lawful_tree, one_of_get}
 pub use Rattle.mt_rows.specs.Names.{AreLegalFrom, Gap, IsAnswered, IsFree, IsGapOf, IsPlaceToPublish, IsTree, Item, MayBury, MayFinish, MayPublish, MayTend, Range, Table, finds_room, gaps_of, is_buried, item_at, items_at, items_from, last_map, life_after, longer, map_after, map_by_reply, map_in, most_calls, most_passes, new_pass, pivot_column, places_from, root_span, rows_of, rows_whole, spans_from, spans_in, tally, tree_as, with_published}
 pub use Rattle.mt_rows.specs.declared.plain.PlainRows.{PlainRows}

@@ -1,5 +1,5 @@
 -- A call publishes: the history is one call longer, and all that is known of rows is known after it.
-use Rattle.mt_rule.proofs.Prelude.{◌≡◌, ℕ, ◌+◌, ◌*◌, ◌<◌, ◌≤◌, List, [], ◌∷◌, ◌++◌, Bool, true, false, true≢false, length, map, replicate, set, refl, sym, ap, ◌∙◌, subst, inl, arith, length-set, Some, slice_index, slice_set, if◌then◌else◌, range_with_len, length-replicate, get_or-map-range_with_len, length-map-range_with_len, none, Me, step, keeps, Allows, Range, Call, Kind, Reply, Width, last_map, kind_width, columns, first_row, IsActed, was_acted, place_behind, place_within, Extent, HasExtentsOf, Goes, Known, cuts_by, moment_of, carried, follow, goes, live_reached_after, Life, New, Live, Dead, Place, Root, Slot, IsTree, one_if, MayPublish, Published, is_reached, life_after, map_by, tree_as, with_published, HasDied, IsWhole, Rooted, Sheet, is_buried, life_of, Moment, TableStart, View, PenPart, PassPart, column_at, root_at, section_at, IsKept, IsSoundPen, WordsFit, HasPass, HasPen, moment_at, pass_of, pen_of, record_of, rooted_in, pen_sheet, state_in, tree_of, pass_recorded, publishes}
+use Rattle.mt_rule.proofs.Prelude.{◌≡◌, ℕ, ◌+◌, ◌*◌, ◌<◌, ◌≤◌, List, [], ◌∷◌, ◌++◌, Bool, true, false, true≢false, length, map, replicate, set, refl, sym, ap, ◌∙◌, subst, inl, arith, length-set, Some, slice_index, slice_set, if◌then◌else◌, range_with_len, length-replicate, get_or-map-range_with_len, length-map-range_with_len, none, Me, step, keeps, Allows, Range, Call, Kind, Reply, Width, last_map, kind_width, columns, first_row, IsActed, was_acted, word_behind, place_within, Extent, HasExtentsOf, Goes, Known, cuts_by, moment_of, carried, follow, goes, live_reached_after, Life, New, Live, Dead, Place, Root, Slot, IsTree, one_if, MayPublish, Published, is_reached, life_after, map_by, tree_as, with_published, HasDied, IsWhole, Rooted, Sheet, is_buried, life_of, Moment, TableStart, View, PenPart, PassPart, column_at, root_at, section_at, IsKept, IsSoundPen, WordsFit, HasPass, HasPen, moment_at, pass_of, pen_of, record_of, rooted_in, pen_sheet, state_in, tree_of, pass_recorded, publishes}
 use Rattle.mt_rule.proofs.Carrying.{Carries, carry_pair, column_set, least_low, recast, sections_set, shaped_as}
 use Rattle.mt_rule.proofs.Counting.{counter_sections, counter_set, here, there}
 use Rattle.mt_rule.proofs.Lives.{every_life, none_marked}
@@ -150,7 +150,7 @@ words_after e p q (Slot row col) word call reply sound may words w =
     let n = after e p q (Slot row col) word call reply sound may in
     let at = may.at.0 in
     let width = kind_width p.shape.kind in
-    let high = place_behind width row first_row col at.first in
+    let high = word_behind width row first_row col at.first in
     let low = place_within width row (first_row + p.shape.rows) col at.last at.column in record {
       fit = column_set words p n (column_at width row col) word w sound.words sound.few_passes high low refl refl refl refl refl;
       sections = sections_set words p (column_at width row col) word sound.few_passes high;

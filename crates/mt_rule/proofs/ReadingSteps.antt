@@ -1,5 +1,5 @@
 -- Each step of a pass that reads without the lock keeps the rule, and tells what it is said to tell.
-use Rattle.mt_rule.proofs.Prelude.{◌≡◌, ◌≢◌, ℕ, zero, suc, ◌+◌, ◌-◌, ◌*◌, ◌<◌, ◌≤◌, List, [], ◌∷◌, Bool, true, false, Option, Some, None, length, refl, sym, ap, ◌∙◌, subst, arith, length-set, inl, inr, IfSome, slice_index, slice_set, Contains, slice_get, cases_Bool, cases_eq, set-get_or, get_or-set_same, get_or-set_other, Contains-append_left, Contains-push, none-some, none, some, some-ne-none, some-injective, get_elem?, Me, Act, step, stepped, carried_after, Valid, keeps, Allows, Holder, Width, kind_width, first_row, begins_long, begins_none, pivot_column, slot_column, dead_mark, named_kind, row_in, slots_of, place_behind, words_before, words_in_all, Live, Dead, one_if, life_of, word_at, inner_kind, root_span, map_in, one_of_get, Extent, Held, HoldsRow, Snapshot, come, as_known_now, calls, extent_at, spans_at, few_slots_below, child_held, leaf_held, marked_held, renewed_held, root_held, unmarked_held, Moment, Shape, TableStart, View, PenPart, PassPart, commits_at, begun_at, root_at, section_at, section_word, IsSectionWord, column_at, HasPass, known_by, least_number, moment_at, pass_of, state_in, tree_of, begun_by, HasFloor, IsHeldBy, IsKept, IsOneHistory, IsOpenAt, IsSoundPen, PassFits, ViewFits, WordsFit, IsAt, held_behind, closed_section, floor_or, here, kind_of, opened_section, slots_in, spans_here, IsLeafRead, ParentTells, marks_with, loads_begun, loads_commits, loads_parent, loads_pivot, loads_root, loads_slot, opens_section, closes_section, touches}
+use Rattle.mt_rule.proofs.Prelude.{◌≡◌, ◌≢◌, ℕ, zero, suc, ◌+◌, ◌-◌, ◌*◌, ◌<◌, ◌≤◌, List, [], ◌∷◌, Bool, true, false, Option, Some, None, length, refl, sym, ap, ◌∙◌, subst, arith, length-set, inl, inr, IfSome, slice_index, slice_set, Contains, slice_get, cases_Bool, cases_eq, set-get_or, get_or-set_same, get_or-set_other, Contains-append_left, Contains-push, none-some, none, some, some-ne-none, some-injective, get_elem?, Me, Act, step, stepped, carried_after, Valid, keeps, Allows, Holder, Width, kind_width, first_row, begins_long, begins_none, pivot_column, slot_column, dead_mark, named_kind, row_in, slots_of, word_behind, words_before, words_in_all, Live, Dead, one_if, life_of, word_at, inner_kind, root_span, map_in, one_of_get, Extent, Held, HoldsRow, Snapshot, come, as_known_now, calls, extent_at, spans_at, few_slots_below, child_held, leaf_held, marked_held, renewed_held, root_held, unmarked_held, Moment, Shape, TableStart, View, PenPart, PassPart, commits_at, begun_at, root_at, section_at, section_word, IsSectionWord, column_at, HasPass, known_by, least_number, moment_at, pass_of, state_in, tree_of, begun_by, HasFloor, IsHeldBy, IsKept, IsOneHistory, IsOpenAt, IsSoundPen, PassFits, ViewFits, WordsFit, IsAt, held_behind, closed_section, floor_or, here, kind_of, opened_section, slots_in, spans_here, IsLeafRead, ParentTells, marks_with, loads_begun, loads_commits, loads_parent, loads_pivot, loads_root, loads_slot, opens_section, closes_section, touches}
 use Rattle.mt_base.specs.Passes as known
 use Rattle.mt_rule.proofs.Beginnings.{legal_within}
 use Rattle.mt_rule.proofs.Carrying.{St, least_low, recast, reseated}
@@ -337,7 +337,7 @@ roots told slots by me is stands s r₀ _ at _ = elim (cases_eq (slice_index s.w
 
 -- the words of rows are those that the pen knows
 word_now : (ws : List ℕ) (p : PenPart) (row col : ℕ) → WordsFit ws p → first_row ≤ row → slice_index ws (column_at (kind_width p.shape.kind) row col) ≡ slice_index p.words (column_at (kind_width p.shape.kind) row col)
-word_now ws p row col fit low = fit.columns (column_at (kind_width p.shape.kind) row col) (place_behind (kind_width p.shape.kind) row first_row col low)
+word_now ws p row col fit low = fit.columns (column_at (kind_width p.shape.kind) row col) (word_behind (kind_width p.shape.kind) row first_row col low)
 
 -- a word of no interest
 pub touches_at : (told : TableStart) (slots by : ℕ) (me : M) (word : ℕ) → HasPass me.0 → Allows (IsKept told) slots by me word (λ n. n) (touches (step slots word 0 0 none) me)

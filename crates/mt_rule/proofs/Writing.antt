@@ -1,5 +1,5 @@
 -- The pen's loads, and its stores that publish nothing, keep the rule and tell what they are said to tell.
-use Rattle.mt_rule.proofs.Prelude.{◌≡◌, ℕ, ◌+◌, ◌<◌, ◌≤◌, List, set, refl, sym, ap, ◌∙◌, subst, arith, some, none, get_elem?, set-get_or, slice_index, slice_set, Me, step, keeps, Allows, Width, kind_width, first_row, place_behind, place_within, words_in_all, IsPlace, TableStart, View, PenPart, Shape, MtTable, Pen, root_at, first_row_column, section_at, table_size, column_at, HasPen, pen_of, rooted_in, shape_told, Identity, identity_of, IsPenOf, pen_in, IsKept, ViewFits, looks, looks_at_root, most_passes}
+use Rattle.mt_rule.proofs.Prelude.{◌≡◌, ℕ, ◌+◌, ◌<◌, ◌≤◌, List, set, refl, sym, ap, ◌∙◌, subst, arith, some, none, get_elem?, set-get_or, slice_index, slice_set, Me, step, keeps, Allows, Width, kind_width, first_row, word_behind, place_within, words_in_all, IsPlace, TableStart, View, PenPart, Shape, MtTable, Pen, root_at, first_row_column, section_at, table_size, column_at, HasPen, pen_of, rooted_in, shape_told, Identity, identity_of, IsPenOf, pen_in, IsKept, ViewFits, looks, looks_at_root, most_passes}
 use Rattle.mt_rule.proofs.Carrying.{St, recast, reseated}
 use Rattle.mt_rule.proofs.Viewing.{each_set}
 
@@ -36,7 +36,7 @@ column_of t pen row col i of place at =
     let low = place_within (kind_width p.shape.kind) row (first_row + p.shape.rows) col place.last place.column in
     record {
       is = is;
-      above = place_behind (kind_width p.shape.kind) row first_row col place.first;
+      above = word_behind (kind_width p.shape.kind) row first_row col place.first;
       below = low;
       inside = subst (λ (n : ℕ × ℕ). n.0 < n.1) (λ j. (sym is j, (ap (λ (d : Shape). table_size (kind_width d.kind) d.rows) shape ∙ sym t.words) j)) low;
     }
