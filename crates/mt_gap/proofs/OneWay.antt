@@ -478,6 +478,12 @@ less_one (suc k) b some = ap (λ (n : ℕ). n * b + b) one ∙ turned k b
     turned m b = grind arith
 
 -- in the empty tree only the root word is loaded before
+pub few_empty : (s s₀ s₁ : Sheet) → s₀ ≡ loaded s → ReadsUpTo (3 * height_in s₀.tree.table s₀.tree.root * columns s₀.tree.table.width + 1) s₀ s₁ → ReadsUpTo (2 * (3 * height_in s.tree.table s.tree.root * columns s.tree.table.width + 1)) s s₁
+few_empty s s₀ s₁ load reads =
+    let h = height_in s.tree.table s.tree.root in let c = columns s.tree.table.width in
+    reads_up (1 + (3 * h * c + 1)) (2 * (3 * h * c + 1)) s s₁ (omega arith)
+    (reads_more 1 (3 * h * c + 1) s s₀ s₁ (one_read s s₀ load) (subst (λ (t : Rooted). ReadsUpTo (3 * height_in t.table t.root * columns t.table.width + 1) s₀ s₁) (ap (λ (r : Sheet). r.tree) load) reads))
+
 pub found_empty : (s s₀ s₁ : Sheet) (n : ℕ) → s₀ ≡ loaded s → ReadsUpTo (3 * height_in s₀.tree.table s₀.tree.root * columns s₀.tree.table.width + 1 + n) s₀ s₁ → ReadsUpTo (2 * (3 * height_in s.tree.table s.tree.root * columns s.tree.table.width + 1) + n) s s₁
 found_empty s s₀ s₁ n load reads =
     let h = height_in s.tree.table s.tree.root in let c = columns s.tree.table.width in

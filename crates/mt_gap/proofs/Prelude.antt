@@ -4,7 +4,7 @@ pub use Rattle.mt_base.proofs.Std.{All-cons, All-nil, AllByRecursion, cases_Bool
 pub use Rattle.std.specs.Option.{IfSome, is_some, option_map, option_or}
 pub use Rattle.mt_base.proofs.Lemmas.{all_join, greatest_fits}
 pub use Rattle.mt_layout.proofs.Lemmas.{IsItem, Names-named_kind, all_gaps_of, apart-append, ends, few_items, few_slots_of, fills_le, gap_at-none, gap_at-some, gap_within, get_or-padded, goes_on, item_or, layout_of, no_gaps_of, one_row_more, same_place, sizes, slots_of-columns, some_columns, some_gaps_of, some_slots_of, used, used-gap}
-pub use Rattle.mt_rows.proofs.Lemmas.{AreGapsAt, Filled, IsOneOf, OnLevel, Shared, all_map, all_spans_stay, covers_it, expand-append, expand_fills, expand_shared, gaps_read, height_by_depth, inner_no_leaf, inner_not_named, levels_at, levels_back, levels_from, levels_front, levels_here, levels_join, levels_lower, levels_map, levels_none, levels_shared, longest_below-append, longest_in-append, longest_none, longest_shared, on_level_law, on_level_reached, one_of_parts, one_place, other_gap, others_keep, ranges_by_depth, reached_number, row_most, rows_filled, still_stands, this_gap, times_reached, times_shared}
+pub use Rattle.mt_rows.proofs.Lemmas.{AreGapsAt, Filled, IsOneOf, OnLevel, Shared, all_map, all_spans_stay, covers_it, expand-append, expand_fills, expand_shared, gaps_read, height_by_depth, inner_no_leaf, inner_not_named, levels_at, levels_back, levels_from, levels_front, levels_here, levels_join, levels_lower, levels_map, levels_none, levels_shared, longest_below-append, longest_in-append, longest_none, longest_shared, on_level_law, on_level_reached, one_of_parts, one_place, other_gap, others_keep, ranges_by_depth, reached_number, reads_on, row_most, rows_filled, still_stands, this_gap, times_reached, times_shared}
 pub use Rattle.mt_rows.specs.Names.{Apart, GapLawBut, GapLawBy, GapsFrom, GapsFromBut, HasGaps, HasWords, IsLawful, IsRow, IsTended, IsTreeOf, IsWhole, KeepsGaps, OnlyReads, Width, clip, deepest, expand, first_row, fits, high_to, hole_between, hole_length, holes_from, inner_of, is_row_of, items_from, leaf_range, level, loaded, low_to, map_in, map_of, row_words, spans_by, spans_from, tended, times, top_of}
 pub use Rattle.mt_path.proofs.Kept.{place_kept, tree_kept}
 pub use Rattle.mt_path.proofs.Loads.{last_loads, no_reads, one_read, reads_more, reads_up}

@@ -1,7 +1,7 @@
 -- A search that goes into one node in each level: what it goes into below a node, and where it ends, with the way there.
 -- Source: the kernel's lib/maple_tree.c, mas_empty_area and mas_empty_area_rev, which keep the place that their search reached.
-use Rattle.std.specs.Prelude.{◌≡◌, ℕ, Bool, false, zero, suc, ◌+◌, ◌<◌, ◌≤◌, ◌↔◌, ◌++◌, List, [], ◌∷◌, Option, Some, None, IsNone, IfSome, length, take, if◌then◌else◌, flat_map}
-use Rattle.mt_gap.specs.Prelude.{Hole, holes_to, lowest_in, highest_in, greatest, Gapped, Leaf, Span, Table, named_kind, Fills, map_by, Rooted, root_span, spans_in, PathStep, handle_in, path_in, row_on}
+use Rattle.std.specs.Prelude.{◌≡◌, ℕ, Bool, false, zero, suc, ◌+◌, ◌*◌, ◌<◌, ◌≤◌, ◌↔◌, ◌++◌, List, [], ◌∷◌, Option, Some, None, IsNone, IfSome, length, take, if◌then◌else◌, flat_map}
+use Rattle.mt_gap.specs.Prelude.{Hole, holes_to, lowest_in, highest_in, greatest, Gapped, Leaf, Span, Table, named_kind, Fills, map_by, Rooted, root_span, spans_in, PathStep, handle_in, path_in, row_on, Sheet, OnlyReads, ReadsUpTo, columns, height_in, last_step, loads_at, loads_on}
 use Rattle.mt_gap.specs.declared.children.Child.{Child}
 use Rattle.mt_gap.specs.declared.searches.SoughtArea.{SoughtArea}
 use Rattle.mt_gap.specs.declared.ways.Below.{Below}
@@ -136,6 +136,16 @@ GoesOneWay side w t (suc d) x = (named_kind x.word ≡ Some Gapped) × ((child :
 -- from the root down to a leaf
 abbrev pub IsOneWay : Side → Window → Rooted → Type 0
 IsOneWay side w t = (levels : ℕ) × GoesOneWay side w t.table levels (root_span t.table t.root)
+
+-- What a search leaves that gives a place and the way there, or finds none. It only reads. It loads at most as many words as two
+-- searches, and those of a walk to the place; on one way it loads the words of that way, and in the leaf a second search.
+pub record HasFoundWay (side : Side) (w : Window) (s s' : Sheet) (path : List PathStep) (area : Option SoughtArea) (old new : ℕ) : Type 0 where
+  pub way : IfSome area (λ x. IsAreaAt s.tree path x)
+  pub rest : OnlyReads s s'
+  pub reads : IsNone area → ReadsUpTo (2 * (3 * height_in s.tree.table s.tree.root * columns s.tree.table.width + 1)) s s'
+  pub found : IfSome area (λ _. ReadsUpTo (2 * (3 * height_in s.tree.table s.tree.root * columns s.tree.table.width + 1) + loads_on path) s s')
+  pub one : IsOneWay side w s.tree → IfSome area (λ _. ReadsUpTo (height_in s.tree.table s.tree.root * columns s.tree.table.width + loads_at (last_step path) + 2) s s')
+  pub steps : new ≤ old + 3 * height_in s.tree.table s.tree.root
 
 abbrev pub IsLeafEnd : End → Type 0
 IsLeafEnd end.Nowhere = ⊥

@@ -12,7 +12,7 @@ ghost use Rattle.mt_gap.specs.declared.children.Child.{Child};
 ghost use Rattle.mt_gap.specs.Below.{child_hole, leaf_hole};
 ghost use Rattle.mt_gap.specs.Children.{children_in, children_below, root_child};
 ghost use Rattle.mt_gap.specs.Descents.{IsGapped, LoadedUpTo, MayLoad, picked, Arrives, AreLeaves};
-ghost use Rattle.mt_gap.specs.Ways.{pick_for, sought_in, sought_to, EndsInLeaf, IsAreaAt, IsOneWay};
+ghost use Rattle.mt_gap.specs.Ways.{pick_for, sought_in, sought_to, EndsInLeaf, HasFoundWay, IsAreaAt};
 ghost use Rattle.mt_gap.specs.declared.ways.Side.TheVariants as sides;
 ghost use Rattle.mt_path.specs.Handles.{last_step};
 ghost use Rattle.mt_path.specs.Paths.{loads_at, loads_on};
@@ -325,17 +325,7 @@ fn way_for<R: Rows, L: Ledger>(
     requires size { 1 ≤ window.size }
     requires empty { path.old.items ≡ [] }
     ensures place { option_map (λ (area : SoughtArea). area.start) result ≡ sought_to side window (R.sheet rows.old).tree }
-    ensures way { IfSome result (λ area. IsAreaAt (R.sheet rows.old).tree path.new.items area) }
-    ensures rest { OnlyReads (R.sheet rows.old) (R.sheet rows.new) }
-    ensures reads { IsNone result
-        → ReadsUpTo (2 * (3 * height_in (R.sheet rows.old).tree.table (R.sheet rows.old).tree.root * columns (R.sheet rows.old).tree.table.width + 1))
-        (R.sheet rows.old) (R.sheet rows.new) }
-    ensures found { IfSome result (λ _. ReadsUpTo (2 * (3 * height_in (R.sheet rows.old).tree.table (R.sheet rows.old).tree.root
-        * columns (R.sheet rows.old).tree.table.width + 1) + loads_on path.new.items) (R.sheet rows.old) (R.sheet rows.new)) }
-    ensures one { IsOneWay side window (R.sheet rows.old).tree
-        → IfSome result (λ _. ReadsUpTo (height_in (R.sheet rows.old).tree.table (R.sheet rows.old).tree.root
-        * columns (R.sheet rows.old).tree.table.width + loads_at (last_step path.new.items) + 2) (R.sheet rows.old) (R.sheet rows.new)) }
-    ensures steps { steps.new ≤ steps.old + 3 * height_in (R.sheet rows.old).tree.table (R.sheet rows.old).tree.root }
+    ensures goes { HasFoundWay side window (R.sheet rows.old) (R.sheet rows.new) path.new.items result steps.old steps.new }
 {
     let word = rows.root();
     if word == 0 {
@@ -364,17 +354,8 @@ pub fn lowest_way<R: Rows, L: Ledger>(
     requires empty { path.old.items ≡ [] }
     ensures place { let t = (R.sheet rows.old).tree in
         option_map (λ (area : SoughtArea). area.start) result ≡ low_to (greatest t.table.width) (map_by t) size lo hi }
-    ensures way { IfSome result (λ area. IsAreaAt (R.sheet rows.old).tree path.new.items area) }
-    ensures rest { OnlyReads (R.sheet rows.old) (R.sheet rows.new) }
-    ensures reads { IsNone result
-        → ReadsUpTo (2 * (3 * height_in (R.sheet rows.old).tree.table (R.sheet rows.old).tree.root * columns (R.sheet rows.old).tree.table.width + 1))
-        (R.sheet rows.old) (R.sheet rows.new) }
-    ensures found { IfSome result (λ _. ReadsUpTo (2 * (3 * height_in (R.sheet rows.old).tree.table (R.sheet rows.old).tree.root
-        * columns (R.sheet rows.old).tree.table.width + 1) + loads_on path.new.items) (R.sheet rows.old) (R.sheet rows.new)) }
-    ensures one { IsOneWay sides.Low (record { size = size; lo = lo; hi = hi }) (R.sheet rows.old).tree
-        → IfSome result (λ _. ReadsUpTo (height_in (R.sheet rows.old).tree.table (R.sheet rows.old).tree.root
-        * columns (R.sheet rows.old).tree.table.width + loads_at (last_step path.new.items) + 2) (R.sheet rows.old) (R.sheet rows.new)) }
-    ensures steps { steps.new ≤ steps.old + 3 * height_in (R.sheet rows.old).tree.table (R.sheet rows.old).tree.root }
+    ensures goes { HasFoundWay sides.Low (record { size = size; lo = lo; hi = hi })
+        (R.sheet rows.old) (R.sheet rows.new) path.new.items result steps.old steps.new }
 {
     way_for(rows, Side::Low, Window { size, lo, hi }, steps, path)
 }
@@ -393,17 +374,8 @@ pub fn highest_way<R: Rows, L: Ledger>(
     requires empty { path.old.items ≡ [] }
     ensures place { let t = (R.sheet rows.old).tree in
         option_map (λ (area : SoughtArea). area.start) result ≡ high_to (greatest t.table.width) (map_by t) size lo hi }
-    ensures way { IfSome result (λ area. IsAreaAt (R.sheet rows.old).tree path.new.items area) }
-    ensures rest { OnlyReads (R.sheet rows.old) (R.sheet rows.new) }
-    ensures reads { IsNone result
-        → ReadsUpTo (2 * (3 * height_in (R.sheet rows.old).tree.table (R.sheet rows.old).tree.root * columns (R.sheet rows.old).tree.table.width + 1))
-        (R.sheet rows.old) (R.sheet rows.new) }
-    ensures found { IfSome result (λ _. ReadsUpTo (2 * (3 * height_in (R.sheet rows.old).tree.table (R.sheet rows.old).tree.root
-        * columns (R.sheet rows.old).tree.table.width + 1) + loads_on path.new.items) (R.sheet rows.old) (R.sheet rows.new)) }
-    ensures one { IsOneWay sides.High (record { size = size; lo = lo; hi = hi }) (R.sheet rows.old).tree
-        → IfSome result (λ _. ReadsUpTo (height_in (R.sheet rows.old).tree.table (R.sheet rows.old).tree.root
-        * columns (R.sheet rows.old).tree.table.width + loads_at (last_step path.new.items) + 2) (R.sheet rows.old) (R.sheet rows.new)) }
-    ensures steps { steps.new ≤ steps.old + 3 * height_in (R.sheet rows.old).tree.table (R.sheet rows.old).tree.root }
+    ensures goes { HasFoundWay sides.High (record { size = size; lo = lo; hi = hi })
+        (R.sheet rows.old) (R.sheet rows.new) path.new.items result steps.old steps.new }
 {
     way_for(rows, Side::High, Window { size, lo, hi }, steps, path)
 }
