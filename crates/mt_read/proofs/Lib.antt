@@ -6,6 +6,7 @@ pub mod Descending
 pub mod Finding
 pub mod GivenUp
 pub mod Keeping
+pub mod Leaves
 pub mod Leaving
 pub mod LastAnswers
 pub mod Preceding

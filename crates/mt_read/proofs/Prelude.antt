@@ -1,8 +1,8 @@
 -- What the proofs beside this file take from the toolchain, from the crates below and from this crate's definitions, under one name. Declares nothing.
 pub use Rattle.std.proofs.Common.{Bool, IfNone, IfSome, IsSome, List, None, Option, Some, [], ap, append-nil, append_assoc, arith, drop, false, filter, find, if◌then◌else◌, inl, inr, le-ltb, length, lt-ltb, map, max, min, nat_le, nat_lt, option_map, refl, rules, slice_index, slice_index_or, slice_set, subst, suc, sym, take, true, unwrap_or, zero, ℕ, ⊎_elim, ◌&&◌, ◌*◌, ◌++◌, ◌+◌, ◌-◌, ◌<◌, ◌==◌, ◌∙◌, ◌∷◌, ◌≡◌, ◌≢◌, ◌≤◌, ◌⊎◌}
-pub use Rattle.mt_base.proofs.Std.{AllByRecursion, and_left, and_parts, and_right, cases_Bool, cases_lt, drop_more, eq-eqb, eqb-false, eqb-true, flat_map, flat_map-append, get_or_from_slice_get, le-leb, leb-false, leb-true, length-map, length_push, lt-leb, ltb-false, ltb-true, map-append, min-eq_left, mul-add, ne_eqb, set_at, slice_get, slice_get-get_or, slice_get_within, take_more}
+pub use Rattle.mt_base.proofs.Std.{AllByRecursion, and_left, and_parts, and_right, cases_Bool, cases_lt, drop_more, eq-eqb, eqb-false, eqb-true, flat_map, flat_map-append, get_or_from_slice_get, le-leb, leb-false, leb-true, length-map, length-take-le, length_push, lt-leb, ltb-false, ltb-true, map-append, min-eq_left, mul-add, ne_eqb, set_at, slice_get, slice_get-get_or, slice_get_within, take_more, take_more_set}
 pub use lib.ListN.{get_elem?}
-pub use mathlib.Core.Option.{some}
+pub use mathlib.Core.Option.{some, some-injective}
 pub use Rattle.mt_base.proofs.Lemmas.{all_back, all_front, all_join, all_map, begins_long, begins_none, begins_on, get_parts, greatest_fits, none_found_above, none_holds_above, none_next_above, prev_above, rfind_above}
 pub use Rattle.mt_layout.proofs.Lemmas.{few_slots_of, fills_le, fills_split, full_back, full_behind_hole, least-below-slots, length-spans_from, none_filled, some_slots_of}
 pub use Rattle.mt_rows.proofs.Lemmas.{Between, leaf_between, leaf_low}
@@ -22,7 +22,8 @@ pub use Rattle.mt_rule.specs.declared.passes.Pass.{Pass}
 pub use Rattle.mt_rule.specs.declared.views.Moment.{Moment}
 pub use Rattle.mt_rule.specs.declared.views.Shape.{Shape}
 pub use Rattle.mt_read.specs.Answers.{Answers, AnswersBy, LeafAnswers, not_below, within}
-pub use Rattle.mt_read.specs.Cursors.{IsOnKeptLeaf, Resumed, epoch_or, epochs_opened}
+pub use Rattle.mt_read.specs.Cursors.{IsOnKeptLeaf, IsOver, LeafWasMarked, Resumed, epoch_or, epochs_opened, kept_lo, row_of}
+pub use Rattle.mt_read.specs.Leaves.{GoesByLeaves, HasReached, IsHoldOf, KeepsReached, LooksFrom, LooksOn, WalkStand, WentByLeaves, stand}
 pub use Rattle.mt_read.specs.Neighbours.{IsBehind, IsLeafBefore, IsLeafOver, LeftHole, LeftMarked, MarkedBeside, WasLeftMarked, WasMoved, asked}
 pub use Rattle.mt_read.specs.Prelude.{Begins, Find, HasBecome, Held, IsAt, IsLeafRead, IsMap, IsRowAt, Kind, Load, Long, Next, PassPart, Prev, Query, Range, Reads, Rfind, Short, Snapshot, Width, answer, closed_section, copy_of, greatest_of, here, inner_kind, kind_of, kind_width, leaf_range, moment_seen, opened_section, slots_of, spans_at, spans_here, with_seen}
 pub use Rattle.mt_read.specs.Seeks.{CoversHere, IsAtLeaf, IsAtSpot, row_here, row_steps, steps_below, lines_touched}

@@ -1,5 +1,6 @@
 pub mod Answers
 pub mod Cursors
+pub mod Leaves
 pub mod Many
 pub mod Neighbours
 pub mod Seeks

@@ -9,6 +9,7 @@ ghost use Rattle.mt_rule.specs.Tokens.{identity_of, part_of, pass_in, tree_in, I
 ghost use Rattle.mt_read.specs.Answers.{Answers};
 ghost use Rattle.mt_read.specs.Cursors.{GoesKept, HasStepped, IsCursorOf, IsOnKeptLeaf, IsOver, IsOverPlace};
 ghost use Rattle.mt_read.specs.Cursors.{LeafWasMarked, MarksKeptLeaf, MayStepOn, Resumed, epoch_or};
+ghost use Rattle.mt_read.specs.Leaves.{KeepsReached};
 ghost use Rattle.mt_read.specs.Walks.{GoesOn, WasMarked};
 
 use crate::bounds::{not_below, within};
@@ -76,6 +77,7 @@ fn first_anew<L: Ledger>(
     ensures goes { GoesOn (part_of pass.old) (part_of pass.new) }
     ensures kept { IfSome leaf.new (IsOnKeptLeaf (part_of pass.new)) }
     ensures lo { IfSome leaf.new (λ kept. kept.lo ≡ lo) }
+    ensures reached { KeepsReached (part_of pass.old) (part_of pass.new) }
     ensures answer { Answers (part_of pass.new) (length (part_of pass.old).seen) (Find index (greatest_of (part_of pass.old).shape.kind)) result }
     ensures within { IfSome result (λ range. IsOver leaf.new range.last) }
     ensures counted { IsCounted pass.old pass.new steps.old steps.new }
@@ -110,6 +112,10 @@ fn first_behind<L: Ledger>(
     ensures marks { MarksKeptLeaf leaf.old (Some index) (part_of pass.new).risen (part_of pass.old) (part_of pass.new) }
     ensures short { IsOver leaf.old index
         → (steps.new ≤ steps.old + 35) ⊎ LeafWasMarked leaf.old (Some index) (part_of pass.new).risen (part_of pass.old) (part_of pass.new) }
+    ensures stays { IsOver leaf.old index
+        → (leaf.new ≡ leaf.old) ⊎ LeafWasMarked leaf.old (Some index) (part_of pass.new).risen (part_of pass.old) (part_of pass.new) }
+    ensures far { (IsOver leaf.old index → ⊥) → steps.new ≤ steps.old + 163 }
+    ensures reached { KeepsReached (part_of pass.old) (part_of pass.new) }
     ensures counted { IsCounted pass.old pass.new steps.old steps.new }
     ensures steps { steps.new ≤ steps.old + 198 }
 {
@@ -146,6 +152,7 @@ impl Cursor {
     ghost use Rattle.mt_read.specs.Answers.{Answers};
     ghost use Rattle.mt_read.specs.Cursors.{GoesKept, HasStepped, IsCursorOf, IsOnKeptLeaf, IsOver, IsOverPlace};
     ghost use Rattle.mt_read.specs.Cursors.{LeafWasMarked, MarksKeptLeaf, MayStepOn, Resumed, epoch_or};
+    ghost use Rattle.mt_read.specs.Leaves.{KeepsReached};
     ghost use Rattle.mt_base.specs.Places.{find_at, place_behind, place_within};
 
     /// A walk from an index up to a bound. It opens no section yet.
@@ -213,6 +220,10 @@ impl Cursor {
         ensures marks { MarksKeptLeaf self.old.leaf (Some index) (part_of pass.new).risen (part_of pass.old) (part_of pass.new) }
         ensures short { IsOver self.old.leaf index → (steps.new ≤ steps.old + 35)
             ⊎ LeafWasMarked self.old.leaf (Some index) (part_of pass.new).risen (part_of pass.old) (part_of pass.new) }
+        ensures stays { IsOver self.old.leaf index → (self.new.leaf ≡ self.old.leaf)
+            ⊎ LeafWasMarked self.old.leaf (Some index) (part_of pass.new).risen (part_of pass.old) (part_of pass.new) }
+        ensures far { (IsOver self.old.leaf index → ⊥) → steps.new ≤ steps.old + 163 }
+        ensures reached { KeepsReached (part_of pass.old) (part_of pass.new) }
         ensures counted { IsCounted pass.old pass.new steps.old steps.new }
         ensures steps { steps.new ≤ steps.old + 198 }
     {

@@ -258,6 +258,7 @@ pub fn walk_by<const COLS: u32, const ALONG: bool, L: Ledger>(
     ensures stepped { Stepped (identity_of table.now) pass.old pass.new }
     ensures goes { GoesOn (part_of pass.old) (part_of pass.new) }
     ensures empty { IfNone result ((moment_seen (part_of pass.new) (length (part_of pass.new).seen)).ranges ≡ []) }
+    ensures sees { IfNone result (SeesMore (part_of pass.old) (part_of pass.new)) }
     ensures leaf { IfSome result (IsOnLeaf (part_of pass.new)) }
     ensures since { IfSome result (λ leaf. length (part_of pass.old).seen ≤ (here (part_of pass.new)).since) }
     ensures under { IfSome result (λ leaf. IsAt (part_of pass.old) → IsUnder (part_of pass.new) (here (part_of pass.old))) }
@@ -288,6 +289,7 @@ fn walk_as<const ALONG: bool, L: Ledger>(
     ensures stepped { Stepped (identity_of table.now) pass.old pass.new }
     ensures goes { GoesOn (part_of pass.old) (part_of pass.new) }
     ensures empty { IfNone result ((moment_seen (part_of pass.new) (length (part_of pass.new).seen)).ranges ≡ []) }
+    ensures sees { IfNone result (SeesMore (part_of pass.old) (part_of pass.new)) }
     ensures leaf { IfSome result (IsOnLeaf (part_of pass.new)) }
     ensures since { IfSome result (λ leaf. length (part_of pass.old).seen ≤ (here (part_of pass.new)).since) }
     ensures under { IfSome result (λ leaf. IsAt (part_of pass.old) → IsUnder (part_of pass.new) (here (part_of pass.old))) }
@@ -339,6 +341,7 @@ pub fn walk_along<L: Ledger>(
     ensures stepped { Stepped (identity_of table.now) pass.old pass.new }
     ensures goes { GoesOn (part_of pass.old) (part_of pass.new) }
     ensures empty { IfNone result ((moment_seen (part_of pass.new) (length (part_of pass.new).seen)).ranges ≡ []) }
+    ensures sees { IfNone result (SeesMore (part_of pass.old) (part_of pass.new)) }
     ensures leaf { IfSome result (IsOnLeaf (part_of pass.new)) }
     ensures since { IfSome result (λ leaf. length (part_of pass.old).seen ≤ (here (part_of pass.new)).since) }
     ensures under { IfSome result (λ leaf. IsAt (part_of pass.old) → IsUnder (part_of pass.new) (here (part_of pass.old))) }

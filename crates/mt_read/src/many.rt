@@ -66,10 +66,11 @@ pub fn load_many<L: Ledger>(
 }
 
 impl Cursor {
-    ghost use Rattle.std.specs.Prelude.{◌≡◌, ◌≢◌, ◌⊎◌, ◌+◌, ◌*◌, ◌≤◌, Some, None, IfSome, length};
+    ghost use Rattle.std.specs.Prelude.{◌≡◌, ◌≢◌, ◌⊎◌, ℕ, ◌+◌, ◌-◌, ◌*◌, ◌≤◌, Some, None, IfSome, length, take};
     ghost use Rattle.mt_rule.specs.Tokens.{identity_of, part_of, pass_in, tree_in, IsPassOf, Stepped, IsCounted};
     ghost use Rattle.mt_read.specs.Cursors.{GoesKept, HasStepped, IsCursorOf, IsOver, MayStepOn, epoch_or};
     ghost use Rattle.mt_base.specs.Places.{find_at, place_behind};
+    ghost use Rattle.mt_read.specs.Leaves.{KeepsReached, LooksOn, WentByLeaves, stand};
     ghost use Rattle.mt_read.specs.Many.{IsSeenFrom, RangesPut, ReadAt, SeenAt};
 
     /// The next range of the walk, found in the open section. There is none if the walk has ended, or ends here.
@@ -85,6 +86,9 @@ impl Cursor {
         ensures same { self.new ≡ record self.old { at = place_behind result self.old.max; leaf = self.new.leaf } }
         ensures read { IsSeenFrom (part_of pass.new) (length (part_of pass.old).seen) (find_at self.old.at self.old.max) result }
         ensures within { IfSome result (λ range. IsOver self.new.leaf range.last) }
+        ensures looked { LooksOn (part_of pass.new).risen self.old.leaf self.new.leaf self.old.at
+            (part_of pass.old).marks (part_of pass.new).marks (steps.new - steps.old) }
+        ensures reached { KeepsReached (part_of pass.old) (part_of pass.new) }
         ensures counted { IsCounted pass.old pass.new steps.old steps.new }
         ensures steps { steps.new ≤ steps.old + 198 }
     {
@@ -111,6 +115,9 @@ impl Cursor {
         ensures same { self.new ≡ record self.old { at = self.new.at; leaf = self.new.leaf } }
         ensures ranges { RangesPut (SeenAt (part_of pass.new)) self.old.max
             (length (part_of pass.old).seen) (length (part_of pass.new).seen) self.old.at ranges.old ranges.new result self.new.at }
+        ensures looked { (few : ℕ) × WentByLeaves (part_of pass.new) lo (part_of pass.new).risen
+            self.old.max (stand self.old.leaf self.old.at (part_of pass.old).marks) (length ranges.old)
+            (take result ranges.new) few (stand self.new.leaf self.new.at (part_of pass.new).marks) × (steps.new ≤ steps.old + few) }
         ensures counted { IsCounted pass.old pass.new steps.old steps.new }
         ensures steps { steps.new ≤ steps.old + 198 * length ranges.old }
         ensures few { steps.new ≤ steps.old + 198 * result + 198 }
@@ -127,7 +134,8 @@ impl Cursor {
 
     /// Puts the next ranges of the walk into the places, and returns how many: fewer than there are places only if the walk has
     /// ended. The places after them keep what they had. Each range is one of some version from `lo` to `hi`, and none is of an
-    /// earlier version than the one before it. The section is open then, as after a step, also if there was no place.
+    /// earlier version than the one before it. The section is open then, as after a step, also if there was no place. It stays in
+    /// each leaf as long as that covers its place and is not found marked, and takes at most 35 steps a range there.
     pub fn step_many<L: Ledger>(
         &mut self,
         table: &MtTable,
@@ -141,6 +149,9 @@ impl Cursor {
         ensures cursor { IsCursorOf (part_of pass.new) self.new }
         ensures ranges { RangesPut (ReadAt (tree_in (identity_of table.now)) (pass_in pass.old) result.lo result.hi (pass_in pass.new))
             self.old.max result.lo result.hi self.old.at ranges.old ranges.new result.value self.new.at }
+        ensures looked { (few : ℕ) × WentByLeaves (part_of pass.new) result.lo result.hi
+            self.old.max (stand self.old.leaf self.old.at (part_of pass.old).marks) (length ranges.old)
+            (take result.value ranges.new) few (stand self.new.leaf self.new.at (part_of pass.new).marks) × (steps.new ≤ steps.old + few + 3) }
         ensures section { HasStepped result.lo result.hi self.old.epoch (pass_in pass.old) (pass_in pass.new) }
         ensures max { self.new.max ≡ self.old.max }
         ensures epoch { self.new.epoch ≡ Some (epoch_or self.old.epoch result.lo) }

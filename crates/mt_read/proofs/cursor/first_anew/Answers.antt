@@ -1,5 +1,6 @@
-use Rattle.mt_read.proofs.Prelude.{rules, ◌≤◌, Option, length, subst, sym, IfSome, Range, Find, greatest_of, identity_of, part_of, Answers}
+use Rattle.mt_read.proofs.Prelude.{rules, ◌≡◌, ◌≤◌, Option, length, ap, subst, sym, IfSome, Range, Find, greatest_of, PassPart, IsAt, here, identity_of, part_of, Answers, IsUnder, SeesMore}
 use Rattle.mt_read.proofs.Descending.{goes_on, goes_sees}
+use Rattle.mt_read.proofs.Leaves.{reached_anew, reached_same}
 use Rattle.mt_read.proofs.Sought.{some_not_below}
 use Rattle.mt_read.proofs.Upward.{found_sought, sought_within}
 use Rattle.mt_read.proofs.cursor.first_anew.Goals as goal
@@ -19,3 +20,18 @@ returns-clause-within g c =
 
 pub returns-clause-goes : goal.returns-clause-goes
 returns-clause-goes g c = goes_on _ _ _ c.walk_along.ensures.goes (goes_on _ _ _ (goes_sees _ _ c.find_along-place.ensures.sees) c.first_at-range.ensures.goes)
+
+-- nothing was reached
+pub returns-in_default-clause-reached : goal.returns-in_default-clause-reached
+returns-in_default-clause-reached g c =
+    let q = part_of c.args.pass.now in let q₁ = part_of c.walk_along.new.pass in
+    let sees : SeesMore q q₁ = search rules in
+    reached_same q q₁ (ap (λ (z : PassPart). z.held) sees.is)
+
+-- the leaf that the section was at is below
+pub returns-clause-reached : goal.returns-clause-reached
+returns-clause-reached g c =
+    let q = part_of c.args.pass.now in let q₁ = part_of c.walk_along.new.pass in let q₂ = part_of c.find_along-place.new.pass in let q₃ = part_of c.first_at-range.new.pass in
+    let goes = goes_on q q₁ q₃ c.walk_along.ensures.goes (goes_on q₁ q₂ q₃ (goes_sees q₁ q₂ c.find_along-place.ensures.sees) c.first_at-range.ensures.goes) in
+    let under : IsAt q → IsUnder q₁ (here q) = search rules in
+    reached_anew q q₃ goes.under (λ at. c.first_at-range.ensures.goes.under (here q) ((goes_sees q₁ q₂ c.find_along-place.ensures.sees).under (here q) (under at)))

@@ -10,3 +10,12 @@ returns-clause-answer g c =
 
 pub returns-clause-gone : goal.returns-clause-gone
 returns-clause-gone g c = c.first_behind-found.ensures.gone
+
+pub returns-clause-stays : goal.returns-clause-stays
+returns-clause-stays g c = c.first_behind-found.ensures.stays
+
+pub returns-clause-far : goal.returns-clause-far
+returns-clause-far g c = c.first_behind-found.ensures.far
+
+pub returns-clause-reached : goal.returns-clause-reached
+returns-clause-reached g c = c.first_behind-found.ensures.reached
