@@ -11,6 +11,10 @@ use Rattle.mt_tree.specs.Walks.{HasWalked}
 pub brief : (over other : Type 0) (before after steps steps' most : ℕ) → after + steps ≡ before + steps' → (over → (steps' ≤ steps + most) ⊎ other) → over → (after ≤ before + most) ⊎ other
 brief over other before after steps steps' most counted short o = ⊎_elim (λ (low : steps' ≤ steps + most). inl (omega arith)) (λ (x : other). inr x) (short o)
 
+-- so are those of a batch
+pub less : (after before steps steps' few : ℕ) → after + steps ≡ before + steps' → steps' ≤ steps + few + 3 → after ≤ before + (few + 3)
+less after before steps steps' few counted low = omega arith
+
 -- so a read by a ledger is one of few steps of the pass
 pub sought : (t : Tree) (p q : Pass) (query : Query) (r : Result (Read (Option Range)) Moved) (steps steps' : ℕ) → IfOk r (λ a. (k : ℕ) × known.Read (opened t) (pass_in p) a.lo a.hi k query a.value (pass_in q)) → IfOk r (λ a. HasRead a.lo a.hi (pass_in p) (pass_in q))
     → IfErr r (λ m. WasMoved (opened t) (pass_in p) m.lo m.begun (pass_in q)) → IfErr r (λ m. HasRead m.lo m.begun (pass_in p) (pass_in q)) → IfErr r (λ m. WasLeftMarked (unbounded (part_of p).shape.kind query) m.lo m.begun (part_of p) (part_of q))

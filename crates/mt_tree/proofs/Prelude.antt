@@ -1,7 +1,7 @@
 -- What the proofs beside this file take from the toolchain, from the crates below and from this crate's definitions, under one name. Declares nothing.
 pub use Rattle.atomic_table.specs.declared.badge.Badge.{Badge}
 pub use Rattle.atomic_table.specs.declared.shared.Seat.{Seat}
-pub use Rattle.std.proofs.Common.{All, Bool, Contains, Err, Global, IfErr, IfOk, IfSome, IsOk, IsSome, IsTrue, List, None, Ok, Option, Result, Some, Vec, [], ap, arith, false, filter, fold, get_or, if◌then◌else◌, inl, inr, length, length-set, map, min, nat_le, nat_lt, not, option_map, refl, replicate, rules, set, slice_get, slice_index, slice_index_or, subst, suc, sym, take, true, unwrap_or, zero, ℕ, ⊎_elim, ◌&&◌, ◌*◌, ◌++◌, ◌+◌, ◌-◌, ◌/◌, ◌<◌, ◌==◌, ◌^◌, ◌||◌, ◌↔◌, ◌∙◌, ◌∷◌, ◌≡◌, ◌≢◌, ◌≤◌, ◌⊎◌}
+pub use Rattle.std.proofs.Common.{All, Bool, Contains, Err, Global, IfErr, IfOk, IfSome, IsOk, IsSome, IsTrue, List, None, Ok, Option, Result, Some, Vec, [], ap, arith, drop, false, filter, fold, get_or, if◌then◌else◌, inl, inr, length, length-set, map, min, nat_le, nat_lt, not, option_map, refl, replicate, rules, set, slice_get, slice_index, slice_index_or, subst, suc, sym, take, true, unwrap_or, zero, ℕ, ⊎_elim, ◌&&◌, ◌*◌, ◌++◌, ◌+◌, ◌-◌, ◌/◌, ◌<◌, ◌==◌, ◌^◌, ◌||◌, ◌↔◌, ◌∙◌, ◌∷◌, ◌≡◌, ◌≢◌, ◌≤◌, ◌⊎◌}
 pub use Rattle.mt_base.proofs.Std.{All-from_get_or, All-from_recursion, All-more, All-nil, All-replicate, All-take, All-weaker, AllByRecursion, Contains-get_or, IfErr-weaker, IfOk-weaker, append-nil, append_assoc, cases_Bool, cases_eq, cases_lt, cond_both, eqb-true, fold-append, get_or-map, get_or-map-range_with_len, get_or_default, get_or_past, le-leb, le-ltb, leb-false, leb-true, length-append, length-map, length-take-le, lt-leb, lt-ltb, map-append, mul_assoc, mul_comm, or_parts, pow-succ', range_with_len, slice_get-get_or, slice_get-map, slice_get_within, take-append_seam, take-length, take_all, take_more, zero-min}
 pub use Rattle.std.specs.declared.snapshot.Snapshot.{Snapshot}
 pub use Rattle.mt_base.proofs.Lemmas.{IsPlain, acted_plainly, all_map, begins_long, begins_on, each_once, few_unheld, high_is_room, low_is_room, saw_grows, saw_wrote, still_short, stored_area, valid_order, was_acted}
@@ -39,6 +39,7 @@ pub use Rattle.mt_rule.specs.declared.views.PassPart.{PassPart}
 pub use Rattle.mt_pen.specs.Sheets.{HasSeenAll, sheet_told, shown_all, told_of}
 pub use Rattle.mt_pen.specs.Works.{OpensSmall}
 pub use Rattle.mt_ids.specs.Allocation.{IsNextCall}
+pub use Rattle.mt_read.specs.Leaves.{WentByLeaves, stand}
 pub use Rattle.mt_tree.specs.Allocations.{allocation_of, is_alone, last_made}
 pub use Rattle.mt_tree.specs.Behind.{AreRowsOf, Behind, IsAtRest, IsCountBehind, IsOnlyRead, IsPenAtRest, IsReady, IsStoreReply, after_show, behind_lock, parts_of}
 pub use Rattle.mt_tree.specs.Calls.{HasCalled}
