@@ -222,7 +222,8 @@ uint32_t maple_shared_step_to(struct maple_user *user, struct maple_walk *walk, 
 
 /* The next ranges of a walk: as many as there are places, and at most MAPLE_MOST_STEPS; the walk continues after them. The other places
  * keep what they had. All are of versions in the one window, and none is of an earlier version than the range before it. The user keeps
- * the leaf of the last, as after maple_shared_step.
+ * the leaf of the last, as after maple_shared_step. From a place that the leaf at hand covers it takes at most 35 steps a range, unless that
+ * leaf was found marked.
  * 0: *count were found. Where these are fewer than both numbers, the walk has ended. Where they are as many, it continues after the last, also
  * if there are no more; it has ended only where that one holds the index 2^64 - 1. With no place it finds none, and the walk is as it was.
  * ENOENT: none was found, and the walk has ended. EBADF: the user is closed, and the walk and every place are as they were. */
