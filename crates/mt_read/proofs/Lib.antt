@@ -7,6 +7,7 @@ pub mod Finding
 pub mod GivenUp
 pub mod Keeping
 pub mod Leaves
+pub mod LeafLaws
 pub mod Leaving
 pub mod LastAnswers
 pub mod Preceding

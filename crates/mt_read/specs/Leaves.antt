@@ -1,11 +1,11 @@
 -- How a walk finds many ranges: from leaf to leaf, and in few steps from a place that the leaf at hand covers.
 -- Source: the kernel's documentation of the maple tree, mas_find, which goes on from the node that it is at.
-use Rattle.std.specs.Prelude.{◌≡◌, ◌⊎◌, ℕ, ◌+◌, ◌<◌, ◌≤◌, List, [], ◌∷◌, Option, Some, None, length}
+use Rattle.std.specs.Prelude.{◌≡◌, ◌⊎◌, ℕ, ◌+◌, ◌<◌, ◌≤◌, List, [], ◌∷◌, Option, Some, None, length, ⊤}
 use mathlib.Core.Option.{some}
 use lib.ListN.{get_elem?}
 use Rattle.mt_read.specs.Prelude.{Range, Held, PassPart, place_behind}
 use Rattle.mt_read.specs.declared.cursor.KeptLeaf.{KeptLeaf}
-use Rattle.mt_read.specs.Cursors.{IsOver, kept_lo, row_of}
+use Rattle.mt_read.specs.Cursors.{IsOver, IsOverPlace, kept_lo, row_of}
 
 -- ---- the leaves that a section has reached
 
@@ -68,3 +68,10 @@ pub record WentByLeaves (q : PassPart) (lo begun max : ℕ) (s : WalkStand) (roo
   pub looks : GoesByLeaves q lo begun max s found first until
   pub full : length found ≡ room → (few ≡ first) × (s' ≡ until)
   pub ended : length found < room → (last : ℕ) × LooksOn begun until.leaf s'.leaf until.at until.marks s'.marks last × (few ≡ first + last)
+
+-- ---- worked cases
+
+-- the leaf covers each of the places from which these ranges were found
+abbrev pub CoversEach : KeptLeaf → ℕ → Option ℕ → List Range → Type 0
+CoversEach kept max at [] = ⊤
+CoversEach kept max at (r ∷ found) = IsOverPlace (Some kept) at × CoversEach kept max (place_behind (Some r) max) found

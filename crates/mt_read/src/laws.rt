@@ -1,9 +1,12 @@
 //! What a batch of reads returns, by cases that can be worked out by hand. Each law is the contract of a function that does
 //! nothing.
 
-ghost use Rattle.std.specs.Prelude.{◌≡◌, ℕ, List, [], ◌∷◌, map};
+ghost use Rattle.std.specs.Prelude.{◌≡◌, ℕ, ◌*◌, ◌≤◌, List, [], ◌∷◌, Option, Some, length, map};
 ghost use Rattle.mt_base.specs.declared.ranges.Range.{Range};
+ghost use Rattle.mt_rule.specs.declared.views.PassPart.{PassPart};
+ghost use Rattle.mt_read.specs.Leaves.{CoversEach, GoesByLeaves, WalkStand, stand};
 ghost use Rattle.mt_read.specs.Many.{AreEntries, AtStore, InMap, entry_in};
+ghost use Rattle.mt_read.specs.declared.cursor.KeptLeaf.{KeptLeaf};
 
 /// In a tree that no write changes, a batch has what that many single loads return.
 #[tactic(auto, using(crate::proofs::BatchLaws::quiet))]
@@ -16,4 +19,14 @@ pub fn a_batch_beside_no_write_has_what_single_loads_return()
 pub fn a_batch_does_not_go_back()
     ensures on { AreEntries AtStore 0 (5 ∷ 5 ∷ []) (0 ∷ 7 ∷ []) 1 }
     ensures back { AreEntries AtStore 0 (5 ∷ 5 ∷ []) (7 ∷ 0 ∷ []) 1 → ⊥ }
+{}
+
+/// If no call has begun since the kept leaf was walked to, a batch whose places it covers stays in it, and takes at most 35
+/// steps a range.
+#[tactic(auto, using(crate::proofs::LeafLaws::near_each))]
+pub fn a_batch_in_its_leaf_beside_no_write_is_short()
+    ensures { (q : PassPart) (lo begun max : ℕ) (kept : KeptLeaf) → begun ≤ kept.lo
+        → (at : Option ℕ) (marks : List ℕ) (found : List Range) (few : ℕ) (s' : WalkStand)
+        → GoesByLeaves q lo begun max (stand (Some kept) at marks) found few s' → CoversEach kept max at found
+        → (few ≤ 35 * length found) × (s'.leaf ≡ Some kept) × (s'.marks ≡ marks) }
 {}
