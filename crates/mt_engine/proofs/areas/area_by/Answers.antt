@@ -9,8 +9,8 @@ returns-in-Lowest g c = record {
   reads = c.lowest_way.ensures.goes.reads;
 }
 
-pub returns-in-Highest : goal.returns-in-Highest
-returns-in-Highest g c = record {
+pub returns : goal.returns
+returns g c = record {
   start = search rules;
   way = c.highest_way.ensures.goes.way;
   rest = c.highest_way.ensures.goes.rest;
