@@ -80,13 +80,13 @@ far_of q q' steps steps' few same = (omega arith, same)
 pub looks_there : (q q' : PassPart) (leaf leaf' : Option KeptLeaf) (at : Option ℕ) (index steps steps' : ℕ) → at ≡ Some index → (IsOver leaf index → (steps' ≤ steps + 35) ⊎ LeafWasMarked leaf (Some index) q'.risen q q')
     → (IsOver leaf index → (leaf' ≡ leaf) ⊎ LeafWasMarked leaf (Some index) q'.risen q q') → (q'.marks ≡ q.marks) ⊎ LeafWasMarked leaf (Some index) q'.risen q q' → ((IsOver leaf index → ⊥) → steps' ≤ steps + 163) → steps' ≤ steps + 198
     → LooksOn q'.risen leaf leaf' at q.marks q'.marks (steps' - steps)
-looks_there q q' leaf leaf' at index steps steps' some short stays marks walk bound =
+looks_there q q' leaf leaf' at index steps steps' same short stays marks walk bound =
     let look : LooksFrom q'.risen leaf leaf' index q.marks q'.marks (steps' - steps) = record {
       near = λ over. near_of q q' leaf leaf' index steps steps' (short over) (stays over) marks;
       far = λ away. far_of q q' steps steps' (walk away) (unmarked q q' leaf index away marks);
       most = omega arith;
     } in
-    subst (λ (o : Option ℕ). LooksOn q'.risen leaf leaf' o q.marks q'.marks (steps' - steps)) (sym some) look
+    subst (λ (o : Option ℕ). LooksOn q'.risen leaf leaf' o q.marks q'.marks (steps' - steps)) (sym same) look
 
 -- a walk that has ended looks for nothing
 pub looks_nowhere : (q : PassPart) (leaf : Option KeptLeaf) (at : Option ℕ) (steps : ℕ) → at ≡ None → LooksOn q.risen leaf leaf at q.marks q.marks (steps - steps)

@@ -1,4 +1,4 @@
-use Rattle.mt_read.proofs.Prelude.{rules, ◌≡◌, ◌≤◌, Option, length, ap, subst, sym, IfSome, Range, Find, greatest_of, PassPart, IsAt, here, identity_of, part_of, Answers, IsUnder, SeesMore}
+use Rattle.mt_read.proofs.Prelude.{rules, ◌≤◌, Option, length, ap, subst, sym, IfSome, Range, Find, greatest_of, PassPart, IsAt, here, identity_of, part_of, Answers, IsUnder, SeesMore}
 use Rattle.mt_read.proofs.Descending.{goes_on, goes_sees}
 use Rattle.mt_read.proofs.Leaves.{reached_anew, reached_same}
 use Rattle.mt_read.proofs.Sought.{some_not_below}
