@@ -10,9 +10,9 @@ near_each q lo begun max kept calm at marks [] few s' went covers =
 near_each q lo begun max kept calm None marks (r ∷ found) few s' went covers = absurd covers.0
 near_each q lo begun max kept calm (Some index) marks (r ∷ found) few s' went covers = ⊎_elim
     (λ (stays : (went.2 ≤ 35) × (Some went.0 ≡ Some kept) × (went.1 ≡ marks)).
-      let next = subst (λ (x : Option KeptLeaf × List ℕ). GoesByLeaves q lo begun max (stand x.0 (place_behind (Some r) max) x.1) found went.3 s') (λ i. (stays.1 i, stays.2 i)) went.8 in
-      let rest = near_each q lo begun max kept calm (place_behind (Some r) max) marks found went.3 s' next covers.1 in
-      (near_sum went.2 went.3 few (length found) stays.0 rest.0 went.9, rest.1, rest.2))
+    let next = subst (λ (x : Option KeptLeaf × List ℕ). GoesByLeaves q lo begun max (stand x.0 (place_behind (Some r) max) x.1) found went.3 s') (λ i. (stays.1 i, stays.2 i)) went.8 in
+    let rest = near_each q lo begun max kept calm (place_behind (Some r) max) marks found went.3 s' next covers.1 in
+    (near_sum went.2 went.3 few (length found) stays.0 rest.0 went.9, rest.1, rest.2))
     (λ (marked : (went.1 ≡ row_of (Some kept) ∷ marks) × (kept_lo (Some kept) < begun)). absurd (omega (arith, calm, marked.1)))
     (went.7.near covers.0)
   where

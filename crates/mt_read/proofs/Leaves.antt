@@ -97,9 +97,9 @@ looks_later : (begun begun' : ℕ) (leaf leaf' : Option KeptLeaf) (at : Option �
 looks_later begun begun' leaf leaf' None marks marks' few later look = look
 looks_later begun begun' leaf leaf' (Some index) marks marks' few later look = record {
   near = λ over. ⊎_elim
-    (λ (stays : (few ≤ 35) × (leaf' ≡ leaf) × (marks' ≡ marks)). inl stays)
-    (λ (marked : (marks' ≡ row_of leaf ∷ marks) × (kept_lo leaf < begun)). inr (marked.0, omega (arith, marked.1, later)))
-    (look.near over);
+      (λ (stays : (few ≤ 35) × (leaf' ≡ leaf) × (marks' ≡ marks)). inl stays)
+      (λ (marked : (marks' ≡ row_of leaf ∷ marks) × (kept_lo leaf < begun)). inr (marked.0, omega (arith, marked.1, later)))
+      (look.near over);
   far = look.far;
   most = look.most;
 }

@@ -91,11 +91,10 @@ returns-in_default-clause-looked g c =
     let q = part_of c.args.pass.now in let q₁ = part_of c.loop-i.pass in let q₂ = part_of c.go_on.new.pass in
     let s = c.args.self.now in let s₁ = c.loop-i.self in
     let inv = c.loop-i.invariant in let told = c.go_on.ensures in
-    let one = c.go_on.new.steps - c.loop-i.steps in
-    (
+    let one = c.go_on.new.steps - c.loop-i.steps in (
       inv.looked.0 + one,
       leaves_end q₁ q₂ c.args.lo s.max (stand s.leaf s.at q.marks) (length c.args.ranges.now) c.loop-i.i c.loop-i.ranges inv.looked.0 s₁.leaf s₁.at inv.looked.1 (search rules) inv.long told.reached told.gone.goes.risen
-      c.go_on.new.self.leaf c.go_on.new.self.at one told.looked,
+          c.go_on.new.self.leaf c.go_on.new.self.at one told.looked,
       few_more c.args.steps.now c.loop-i.steps c.go_on.new.steps inv.looked.0 inv.looked.2,
     )
 

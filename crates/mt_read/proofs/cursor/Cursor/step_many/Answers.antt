@@ -26,8 +26,7 @@ returns-clause-looked g c =
     let found = take c.fill-value.result c.fill-value.new.ranges in
     let held = reached_same q₂ q₃ (ap (λ (z : PassPart). z.held) c.load_begun-hi.ensures.told.is) in
     let went = leaves_as q₂ q₃ c.resume-lo.result q₂.risen hi s₁.max s₁.leaf s₁.at q₁.marks q.marks (length c.args.ranges.now) found looked.0 s₂.leaf s₂.at q₂.marks q₃.marks held c.load_begun-hi.ensures.told.risen
-    (resumed_marks c.resume-lo.result s.epoch q q₁ c.resume-lo.ensures.resumed) (sym (ap (λ (z : PassPart). z.marks) c.load_begun-hi.ensures.told.is)) looked.1 in
-    (
+    (resumed_marks c.resume-lo.result s.epoch q q₁ c.resume-lo.ensures.resumed) (sym (ap (λ (z : PassPart). z.marks) c.load_begun-hi.ensures.told.is)) looked.1 in (
       looked.0,
       subst (λ (x : Cursor). WentByLeaves q₃ c.resume-lo.result hi x.max (stand x.leaf x.at q.marks) (length c.args.ranges.now) found looked.0 (stand s₂.leaf s₂.at q₃.marks)) c.resume-lo.ensures.same went,
       few_around c.args.steps.now c.resume-lo.new.steps c.fill-value.new.steps c.load_begun-hi.new.steps looked.0 c.resume-lo.ensures.steps looked.2 c.load_begun-hi.ensures.steps,
