@@ -33,7 +33,7 @@ pub use Rattle.mt_rule.specs.Places.{AreOpening, IsRowAt, IsSectionWord, IsUnnam
 pub use Rattle.mt_rule.specs.Prelude.{Begins, Call, Draft, Extent, HasDied, HasRow, Held, History, Holder, HoldsRow, IsLawfulOf, IsLegal, IsPlace, IsRefused, IsTreeOf, IsWhole, Kind, Known, Life, Live, LiveAreReached, New, NoneBuried, Place, Published, Record, Reply, Root, Rooted, RowKind, SameForm, Sheet, Slot, Snapshot, Span, Width, acted, columns, cuts_by, dead_mark, deepest, first_row, holder_of, inner_kind, is_reached, kind_at, kind_width, life_of, limits_after, map_at, map_by, most_rows, named_kind, one_if, places, reached_in, row_in, sheet_in, slot_column, slots_of, spans_at, word_at}
 pub use Rattle.mt_rule.specs.Rule.{HasFloor, IsHeldBy, IsKept, IsOneHistory, IsOpenAt, IsSoundPen, PassFits, ViewFits, WordsFit, begun_by}
 pub use Rattle.mt_rule.specs.Seats.{HasNote, HasPass, HasPen, cuts_at, cuts_of, dealing_view, dealt_view, known_by, least_number, longer_history, moment_at, new_part, new_pen, no_view, note_alone, note_of, note_or, opening_life, opening_view, part_in, pass_alone, pass_of, pass_or, pen_joined, pen_of, pen_or, pen_sheet, record_of, records_of, rooted_in, shape_opening, shape_told, state_in, tree_of, with_note, with_pass, without_pass}
-pub use Rattle.mt_rule.specs.Sections.{IsAt, IsLeafRead, ParentTells, closed_section, closes_section, floor_or, held_behind, here, kind_of, loads_begun, loads_commits, loads_parent, loads_pivot, loads_root, loads_slot, marks_with, opened_section, opens_section, slots_in, spans_here, touches}
+pub use Rattle.mt_rule.specs.Sections.{IsAt, IsLeafRead, LoadedBegun, LoadedCommits, LoadedParent, LoadedPivot, LoadedRoot, LoadedSlot, MayLoadWord, ParentTells, closed_section, closes_section, floor_or, held_behind, here, kind_of, marks_with, opened_section, opens_section, slots_in, spans_here, touches}
 pub use Rattle.mt_rule.specs.Steps.{all_seen, begins_call, buries, drafts, ends_call, finds_drafted, learns, loads_section, looks, looks_at_root, pass_recorded, pen_begun, pen_buried, pen_drafted, pen_scanned, pen_tended, publishes, quiet_moment, raised, sees_all, taught, tends, with_loaded}
 pub use Rattle.mt_rule.specs.Tokens.{Identity, IsAlone, IsPassOf, IsPenOf, MayOpen, WasShown, identity_of, part_of, pass_in, pen_in, shape_opened, tree_in, tree_seat}
 pub use Rattle.mt_rule.specs.Turns.{HasGrabbed, IsSeatedAt, IsTurnKept, SeatFits, counting, given_back, grabs, holding_view, refused, releases, seat_beside, seated, served, taken_bit, tries_in, tries_of, waiting}

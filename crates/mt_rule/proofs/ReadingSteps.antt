@@ -1,5 +1,5 @@
 -- Each step of a pass that reads without the lock keeps the rule, and tells what it is said to tell.
-use Rattle.mt_rule.proofs.Prelude.{◌≡◌, ◌≢◌, ℕ, zero, suc, ◌+◌, ◌-◌, ◌*◌, ◌<◌, ◌≤◌, List, [], ◌∷◌, Bool, true, false, Option, Some, None, length, refl, sym, ap, ◌∙◌, subst, arith, length-set, inl, inr, IfSome, slice_index, slice_set, Contains, slice_get, cases_Bool, cases_eq, set-get_or, get_or-set_same, get_or-set_other, Contains-append_left, Contains-push, none-some, none, some, some-ne-none, some-injective, get_elem?, Me, Act, step, stepped, carried_after, Valid, keeps, Allows, Holder, Width, kind_width, first_row, begins_long, begins_none, pivot_column, slot_column, dead_mark, named_kind, row_in, slots_of, word_behind, words_before, words_in_all, Live, Dead, one_if, life_of, word_at, inner_kind, root_span, map_in, one_of_get, Extent, Held, HoldsRow, Snapshot, come, as_known_now, calls, extent_at, spans_at, few_slots_below, child_held, leaf_held, marked_held, renewed_held, root_held, unmarked_held, Moment, Shape, TableStart, View, PenPart, PassPart, commits_at, begun_at, root_at, section_at, section_word, IsSectionWord, column_at, HasPass, known_by, least_number, moment_at, pass_of, state_in, tree_of, begun_by, HasFloor, IsHeldBy, IsKept, IsOneHistory, IsOpenAt, IsSoundPen, PassFits, ViewFits, WordsFit, IsAt, held_behind, closed_section, floor_or, here, kind_of, opened_section, slots_in, spans_here, IsLeafRead, ParentTells, marks_with, loads_begun, loads_commits, loads_parent, loads_pivot, loads_root, loads_slot, opens_section, closes_section, touches}
+use Rattle.mt_rule.proofs.Prelude.{◌≡◌, ◌≢◌, ℕ, zero, suc, ◌+◌, ◌-◌, ◌*◌, ◌<◌, ◌≤◌, List, [], ◌∷◌, Bool, true, false, Option, Some, None, length, refl, sym, ap, ◌∙◌, subst, arith, length-set, inl, inr, IfSome, slice_index, slice_set, Contains, slice_get, cases_Bool, cases_eq, set-get_or, get_or-set_same, get_or-set_other, Contains-append_left, Contains-push, none-some, none, some, some-ne-none, some-injective, get_elem?, Me, step, keeps, Allows, Holder, Width, kind_width, first_row, begins_long, begins_none, pivot_column, slot_column, dead_mark, named_kind, row_in, slots_of, word_behind, words_before, words_in_all, Live, Dead, one_if, life_of, word_at, inner_kind, root_span, map_in, one_of_get, Extent, Held, HoldsRow, Snapshot, come, as_known_now, calls, extent_at, spans_at, few_slots_below, child_held, leaf_held, marked_held, renewed_held, root_held, unmarked_held, Moment, Shape, TableStart, View, PenPart, PassPart, commits_at, begun_at, root_at, section_at, section_word, IsSectionWord, column_at, HasPass, known_by, least_number, moment_at, pass_of, state_in, tree_of, begun_by, HasFloor, IsHeldBy, IsKept, IsOneHistory, IsOpenAt, IsSoundPen, PassFits, ViewFits, WordsFit, IsAt, held_behind, closed_section, floor_or, here, kind_of, opened_section, slots_in, spans_here, IsLeafRead, ParentTells, marks_with, LoadedBegun, LoadedCommits, LoadedParent, LoadedPivot, LoadedRoot, LoadedSlot, MayLoadWord, opens_section, closes_section, touches}
 use Rattle.mt_base.specs.Passes as known
 use Rattle.mt_rule.proofs.Beginnings.{legal_within}
 use Rattle.mt_rule.proofs.Carrying.{St, least_low, recast, reseated}
@@ -124,25 +124,53 @@ rows_fit : (e : ℕ → Extent) (p : PenPart) (q : PassPart) (floor : Option ℕ
     → ((j : ℕ) (x : Held) → get_elem? held j ≡ some x → IsHeldBy e p (record q { floor = floor; held = held }) x) → PassFits e p (record q { floor = floor; held = held })
 rows_fit e p q floor held f closed low rows = section_fits e p q q.opened q.standing floor held f f.loaded (λ o is. let h = f.standing o is in record { seen = h.seen; opened = h.opened }) closed low rows
 
--- ---- the numbers of calls that ended and that have begun
+-- ---- a load
 
-pub commits : (told : TableStart) (slots by : ℕ) (me : M) → HasPass me.0 → Allows (IsKept told) slots by me commits_at (λ n. n) (loads_commits (step slots commits_at 0 0 none) me)
-commits told slots by me is s r₀ _ at _ =
-    let q = pass_of me.0 in let p : PenPart = part_by told s r₀ by me.0 at q is in
-    let r : IsKept told s = kept_by told s r₀ by me.0 at q is in let f : PassFits r.extents p q = (r.each by me.0 at).passes q is in
-    let n : ℕ = slice_index s.words commits_at in
-    let ended : n ≡ p.ended = r.words.commits in
-    let whole = r.sound.history in let count = whole.count in let few = whole.few in let one = one_if_low p.published in
-    let q' : PassPart = record q { seen = p.history; epoch = n; ended = n } in (
-      record me.0 { pass = Some (counted q q') },
+-- what a load leaves of a pass as it is
+abbrev stays : PassPart → ℕ × Option ℕ × Shape
+stays q = (q.number, q.standing, q.shape)
+
+-- What a load leads to: the pass afterwards, before the step is counted, and what it then knows of the word that was found.
+pub record Leads (tells : ℕ → ℕ → PassPart → PassPart → Type 0) (e : ℕ → Extent) (p : PenPart) (q : PassPart) (word found : ℕ) : Type 0 where
+  pub after : PassPart
+  pub same : stays after ≡ stays q
+  pub fits : PassFits e p after
+  pub told : tells word found q (counted q after)
+
+-- the pen's part, with the shape as a pass knows it
+abbrev shaped : PassPart → PenPart → PenPart
+shaped q p = record p { shape = q.shape }
+
+-- so it does whatever the words are, and whatever the pen knows
+abbrev pub Loads : (ℕ → ℕ → PassPart → PassPart → Type 0) → ℕ → PassPart → Type 0
+Loads tells word q = (ws : List ℕ) (e : ℕ → Extent) (pen : PenPart) → WordsFit ws (shaped q pen) → IsSoundPen e (shaped q pen) → PassFits e (shaped q pen) q → Leads tells e (shaped q pen) q word (slice_index ws word)
+
+pub may_load : (tells : ℕ → ℕ → PassPart → PassPart → Type 0) (told : TableStart) (word : ℕ) (q : PassPart) → Loads tells word q → MayLoadWord tells told word q
+may_load tells told word q loads slots by me is same s r₀ _ at _ =
+    let q₁ : PassPart = pass_of me.0 in
+    let r : IsKept told s = kept_by told s r₀ by me.0 at q₁ is in
+    let leads : Loads tells word q₁ = subst (Loads tells word) (sym same) loads in
+    let l = leads s.words r.extents r₀.part r.words r.sound ((r.each by me.0 at).passes q₁ is) in (
+      record me.0 { pass = Some (counted q₁ l.after) },
       keeps,
       tt,
-      loads_to told s r₀ by me.0 at q is commits_at q' refl refl (all_fit r.extents p q n n q.risen f (omega arith) (omega arith) (omega arith) f.risen),
-      (
-        record { view = refl; slots = refl; counted = refl },
-        record { reads = record { is = refl; seen = f.seen }; before = let a = f.over in omega arith; most = omega arith; least = omega arith; few = omega arith },
-      ),
+      loads_to told s r₀ by me.0 at q₁ is word l.after (ap (λ (z : ℕ × Option ℕ × Shape). z.0) l.same) (ap (λ (z : ℕ × Option ℕ × Shape). z.1) l.same) l.fits,
+      (record { view = refl; slots = refl; shape = ap (λ (z : ℕ × Option ℕ × Shape). z.2) l.same; number = ap (λ (z : ℕ × Option ℕ × Shape). z.0) l.same; counted = refl }, l.told),
     )
+
+-- ---- the numbers of calls that ended and that have begun
+
+pub commits : (q : PassPart) → Loads (λ word. LoadedCommits) commits_at q
+commits q ws e pen fit sound f =
+    let p : PenPart = shaped q pen in
+    let n : ℕ = slice_index ws commits_at in
+    let ended : n ≡ p.ended = fit.commits in
+    let whole = sound.history in let count = whole.count in let few = whole.few in let one = one_if_low p.published in record {
+      after = record q { seen = p.history; epoch = n; ended = n };
+      same = refl;
+      fits = all_fit e p q n n q.risen f (omega arith) (omega arith) (omega arith) f.risen;
+      told = record { reads = record { is = refl; seen = f.seen }; before = let a = f.over in omega arith; most = omega arith; least = omega arith; few = omega arith };
+    }
 
 -- what a pass has seen is a legal history
 sound_of : (e : ℕ → Extent) (p : PenPart) (q : PassPart) → IsOneHistory p → PassFits e p q → known.IsSound (tree_of p.shape []) (known_by q)
@@ -151,24 +179,19 @@ sound_of e p q whole f = record { own = f.mine; legal = legal_within p.shape q.s
 begun_fits : (e : ℕ → Extent) (p : PenPart) (q : PassPart) (n : ℕ) → PassFits e p q → n ≡ begun_by p → PassFits e p (record q { begun = n })
 begun_fits e p q n f is = numbers_fit e p q q.seen n q.ended q.epoch q.risen f f.seen f.mine (omega arith) (omega arith) f.ended f.over f.epoch f.risen
 
-pub beguns : (told : TableStart) (slots by : ℕ) (me : M) → HasPass me.0 → Allows (IsKept told) slots by me begun_at (λ n. n) (loads_begun (step slots begun_at 0 0 none) me)
-beguns told slots by me is s r₀ _ at _ =
-    let q = pass_of me.0 in let p : PenPart = part_by told s r₀ by me.0 at q is in
-    let r : IsKept told s = kept_by told s r₀ by me.0 at q is in let f : PassFits r.extents p q = (r.each by me.0 at).passes q is in
-    let n : ℕ = slice_index s.words begun_at in
-    let begun : n ≡ begun_by p = r.words.begun in
-    let more = begins_long q.seen p.history f.seen in let all = history_begun p r.sound.history in
-    let q' : PassPart = record q { begun = n } in
-    let fits = begun_fits r.extents p q n f begun in (
-      record me.0 { pass = Some (counted q q') },
-      keeps,
-      tt,
-      loads_to told s r₀ by me.0 at q is begun_at q' refl refl fits,
-      (
-        record { view = refl; slots = refl; counted = refl },
-        record { is = refl; seen = omega arith; before = let a = f.begun in omega arith; risen = let a = f.risen in omega arith; sound = sound_of r.extents p q' r.sound.history fits },
-      ),
-    )
+pub beguns : (q : PassPart) → Loads (λ word. LoadedBegun) begun_at q
+beguns q ws e pen fit sound f =
+    let p : PenPart = shaped q pen in
+    let n : ℕ = slice_index ws begun_at in
+    let begun : n ≡ begun_by p = fit.begun in
+    let more = begins_long q.seen p.history f.seen in let all = history_begun p sound.history in
+    let after : PassPart = record q { begun = n } in
+    let fits = begun_fits e p q n f begun in record {
+      after = after;
+      same = refl;
+      fits = fits;
+      told = record { is = refl; seen = omega arith; before = let a = f.begun in omega arith; risen = let a = f.risen in omega arith; sound = sound_of e p after sound.history fits };
+    }
 
 -- ---- sections
 
@@ -194,7 +217,7 @@ opening_here told slots by me new is word s r₀ _ at _ =
       keeps,
       tt,
       stores_to told s r₀ by me.0 at q is new (uncounted q (opened_section q)) refl word (inr (q.epoch, word, (let a = f.epoch in let b = f.over in omega arith))) (opened_fits r.extents p q f),
-      (record { view = refl; slots = refl; counted = refl }, refl),
+      (record { view = refl; slots = refl; shape = refl; number = refl; counted = refl }, refl),
     )
 
 pub opening_at : (told : TableStart) (slots by : ℕ) (me : M) (new word : ℕ) → HasPass me.0 → word ≡ section_at (pass_of me.0).number → new ≡ 2 * (pass_of me.0).epoch + 1
@@ -210,7 +233,7 @@ closing_here told slots by me is s r₀ _ at _ =
       keeps,
       tt,
       stores_to told s r₀ by me.0 at q is 0 (uncounted q (closed_section q)) refl refl (inl refl) (closed_fits r.extents p q f),
-      (record { view = refl; slots = refl; counted = refl }, refl),
+      (record { view = refl; slots = refl; shape = refl; number = refl; counted = refl }, refl),
     )
 
 pub closing_at : (told : TableStart) (slots by : ℕ) (me : M) (word : ℕ) → HasPass me.0 → word ≡ section_at (pass_of me.0).number
@@ -248,89 +271,67 @@ root_fits e p q x (Some n) sound f stands was since met holds =
     let h = f.floor n was in let a = h.seen in
     comes_to e p (record q { seen = p.history }) x n (sees_fits e p q f) holds stands h.epoch (omega arith) (omega arith) (omega arith) h.cleared (λ m is. let same : Some m ≡ Some n = sym is ∙ was in cc)
 
-abbrev Outcome : (told : TableStart) (s : St) → ℕ → M → ℕ → ℕ → (ℕ → M → Type 0) → Type 0
-Outcome told s by me i n tells = (w : View) × (a : Act (Unit {0})) × Valid s.homes me.1 a × IsKept told (stepped s i n by me.1 w a) × tells n (w, carried_after me.1 a)
-
-module _ (told : TableStart) (slots by : ℕ) (me : M) (is : HasPass me.0) (stands : (pass_of me.0).standing ≢ None) (s : St) (r₀ : IsKept told s) (at : get_elem? s.views by ≡ some me.0) where
-  abbrev q₀ : PassPart
-  q₀ = pass_of me.0
-
+module _ (q : PassPart) (stands : q.standing ≢ None) (ws : List ℕ) (e : ℕ → Extent) (pen : PenPart) (fit : WordsFit ws (shaped q pen)) (sound : IsSoundPen e (shaped q pen)) (f : PassFits e (shaped q pen) q) where
   abbrev p₀ : PenPart
-  p₀ = part_by told s r₀ by me.0 at q₀ is
+  p₀ = shaped q pen
 
-  abbrev r₁ : IsKept told s
-  r₁ = kept_by told s r₀ by me.0 at q₀ is
-
-  abbrev f₀ : PassFits r₁.extents p₀ q₀
-  f₀ = (r₁.each by me.0 at).passes q₀ is
-
-  no_root : slice_index s.words root_at ≡ 0 → Outcome told s by me root_at (slice_index s.words root_at) (loads_root (step slots root_at 0 0 none) me)
+  no_root : slice_index ws root_at ≡ 0 → Leads (λ word. LoadedRoot) e p₀ q root_at (slice_index ws root_at)
   no_root none_there =
-      let q' : PassPart = record q₀ { seen = p₀.history } in
-      let empty : p₀.root ≡ 0 = sym r₁.words.root ∙ none_there in
-      let count = r₁.sound.history.count in (
-        record me.0 { pass = Some (counted q₀ q') },
-        keeps,
-        tt,
-        loads_to told s r₀ by me.0 at q₀ is root_at q' refl refl (sees_fits r₁.extents p₀ q₀ f₀),
-        (
-          record { view = refl; slots = refl; counted = refl },
-          record {
-            empty = λ _. record {
-              reads = record { is = refl; seen = f₀.seen };
-              empty = ap (λ (n : ℕ). (moment_at p₀.shape p₀.history n).ranges) count ∙ (r₁.sound.known.current ∙ ap (map_in (record { width = kind_width p₀.shape.kind; words = p₀.words })) empty);
-            };
-            row = λ some_there. absurd (some_there none_there);
-          },
-        ),
-      )
+      let empty : p₀.root ≡ 0 = sym fit.root ∙ none_there in
+      let count = sound.history.count in record {
+        after = record q { seen = p₀.history };
+        same = refl;
+        fits = sees_fits e p₀ q f;
+        told = record {
+          empty = λ _. record {
+            reads = record { is = refl; seen = f.seen };
+            empty = ap (λ (n : ℕ). (moment_at p₀.shape p₀.history n).ranges) count ∙ (sound.known.current ∙ ap (map_in (record { width = kind_width p₀.shape.kind; words = p₀.words })) empty);
+          };
+          row = λ some_there. absurd (some_there none_there);
+        };
+      }
 
-  a_root : slice_index s.words root_at ≢ 0 → Outcome told s by me root_at (slice_index s.words root_at) (loads_root (step slots root_at 0 0 none) me)
+  a_root : slice_index ws root_at ≢ 0 → Leads (λ word. LoadedRoot) e p₀ q root_at (slice_index ws root_at)
   a_root some_there =
-      let there : p₀.root ≢ 0 = λ e. some_there (r₁.words.root ∙ e) in
-      let count = r₁.sound.history.count in
-      let few = r₁.sound.history.dealt in let number = f₀.number in let passes = r₁.sound.passes in
-      let clear : slice_index p₀.cleared q₀.number ≤ p₀.ended = r₁.sound.cleared q₀.number (omega arith) in
-      let least : least_number p₀.cleared ≤ slice_index p₀.cleared q₀.number = least_low p₀.cleared q₀.number (omega arith) in
-      let root = root_held p₀.shape.kind (state_in p₀) r₁.extents (moment_at p₀.shape p₀.history) r₁.sound.known (omega arith) there in
+      let there : p₀.root ≢ 0 = λ e. some_there (fit.root ∙ e) in
+      let count = sound.history.count in
+      let few = sound.history.dealt in let number = f.number in let passes = sound.passes in
+      let clear : slice_index p₀.cleared q.number ≤ p₀.ended = sound.cleared q.number (omega arith) in
+      let least : least_number p₀.cleared ≤ slice_index p₀.cleared q.number = least_low p₀.cleared q.number (omega arith) in
+      let root = root_held p₀.shape.kind (state_in p₀) e (moment_at p₀.shape p₀.history) sound.known (omega arith) there in
       let x : Held = come (state_in p₀) (row_in p₀.root) (calls (state_in p₀)) (extent_at (root_span (record { width = kind_width p₀.shape.kind; words = p₀.words }) p₀.root) root.0) in
-      let holds : HoldsRow p₀.shape.kind (state_in p₀) r₁.extents (moment_at p₀.shape p₀.history) x = root.2.held in
-      let q' : PassPart = record q₀ { seen = p₀.history; floor = floor_or q₀.floor (length p₀.history); held = x ∷ q₀.held } in (
-        record me.0 { pass = Some (counted q₀ q') },
-        keeps,
-        tt,
-        loads_to told s r₀ by me.0 at q₀ is root_at q' refl refl (root_fits r₁.extents p₀ q₀ x q₀.floor r₁.sound f₀ stands refl (sym count) (sym count) holds),
-        (
-          record { view = refl; slots = refl; counted = refl },
-          record {
-            empty = λ none_there. absurd (some_there none_there);
-            row = λ _. record {
-              reads = record { is = refl; seen = f₀.seen };
-              at = refl;
-              comes = record {
-                row = ap row_in (sym r₁.words.root);
-                named = ap named_kind r₁.words.root ∙ root.2.named;
-                has = holds.has;
-                since_is = sym count;
-                old = holds.old;
-                met = omega arith;
-                width = refl;
-                shape = holds.shape;
-              };
-              first = refl;
-              last = refl;
-              level = subst (λ (e : Extent). slots_of (kind_width p₀.shape.kind) (inner_kind p₀.shape.kind) * e.level ≤ 128) holds.extent
-                  (few_slots_below p₀.shape.kind (state_in p₀) r₁.extents (moment_at p₀.shape p₀.history) r₁.sound.known r₁.sound.tree.words r₁.sound.rows there);
-              low = root.1;
+      let holds : HoldsRow p₀.shape.kind (state_in p₀) e (moment_at p₀.shape p₀.history) x = root.2.held in record {
+        after = record q { seen = p₀.history; floor = floor_or q.floor (length p₀.history); held = x ∷ q.held };
+        same = refl;
+        fits = root_fits e p₀ q x q.floor sound f stands refl (sym count) (sym count) holds;
+        told = record {
+          empty = λ none_there. absurd (some_there none_there);
+          row = λ _. record {
+            reads = record { is = refl; seen = f.seen };
+            at = refl;
+            comes = record {
+              row = ap row_in (sym fit.root);
+              named = ap named_kind fit.root ∙ root.2.named;
+              has = holds.has;
+              since_is = sym count;
+              old = holds.old;
+              met = omega arith;
+              width = refl;
+              shape = holds.shape;
             };
-          },
-        ),
-      )
+            first = refl;
+            last = refl;
+            level = subst (λ (x : Extent). slots_of (kind_width p₀.shape.kind) (inner_kind p₀.shape.kind) * x.level ≤ 128) holds.extent
+                (few_slots_below p₀.shape.kind (state_in p₀) e (moment_at p₀.shape p₀.history) sound.known sound.tree.words sound.rows there);
+            low = root.1;
+          };
+        };
+      }
 
-pub roots : (told : TableStart) (slots by : ℕ) (me : M) → HasPass me.0 → (pass_of me.0).standing ≢ None → Allows (IsKept told) slots by me root_at (λ n. n) (loads_root (step slots root_at 0 0 none) me)
-roots told slots by me is stands s r₀ _ at _ = elim (cases_eq (slice_index s.words root_at) 0) [
-  | inl none_there ↦ no_root told slots by me is stands s r₀ at none_there
-  | inr some_there ↦ a_root told slots by me is stands s r₀ at some_there
+pub roots : (q : PassPart) → q.standing ≢ None → Loads (λ word. LoadedRoot) root_at q
+roots q stands ws e pen fit sound f = elim (cases_eq (slice_index ws root_at) 0) [
+  | inl none_there ↦ no_root q stands ws e pen fit sound f none_there
+  | inr some_there ↦ a_root q stands ws e pen fit sound f some_there
 ]
 
 -- ---- the row that the section is at
@@ -340,45 +341,29 @@ word_now : (ws : List ℕ) (p : PenPart) (row col : ℕ) → WordsFit ws p → f
 word_now ws p row col fit low = fit.columns (column_at (kind_width p.shape.kind) row col) (word_behind (kind_width p.shape.kind) row first_row col low)
 
 -- a word of no interest
-pub touches_at : (told : TableStart) (slots by : ℕ) (me : M) (word : ℕ) → HasPass me.0 → Allows (IsKept told) slots by me word (λ n. n) (touches (step slots word 0 0 none) me)
-touches_at told slots by me word is s r₀ _ at _ =
-    let q = pass_of me.0 in let p : PenPart = part_by told s r₀ by me.0 at q is in
-    let r : IsKept told s = kept_by told s r₀ by me.0 at q is in let f : PassFits r.extents p q = (r.each by me.0 at).passes q is in (
-      record me.0 { pass = Some (counted q q) },
-      keeps,
-      tt,
-      loads_to told s r₀ by me.0 at q is word q refl refl f,
-      (record { view = refl; slots = refl; counted = refl }, refl),
-    )
+pub touches_at : (q : PassPart) (word : ℕ) → Loads touches word q
+touches_at q word ws e pen fit sound f = record { after = q; same = refl; fits = f; told = refl }
 
 -- a pivot is as it was
-pub pivots : (told : TableStart) (slots by : ℕ) (me : M) (word row col : ℕ) → HasPass me.0 → IsAt (pass_of me.0) → row ≡ (here (pass_of me.0)).row
-    → (i : ℕ) × (col ≡ pivot_column i) × (i + 1 < slots_in (pass_of me.0) (here (pass_of me.0))) → word ≡ column_at (kind_width (pass_of me.0).shape.kind) row col
-    → Allows (IsKept told) slots by me word (λ n. n) (loads_pivot (step slots word 0 0 none) me)
-pivots told slots by me word row col is here_at row_is pivot place s r₀ _ at _ =
-    let q = pass_of me.0 in let p : PenPart = part_by told s r₀ by me.0 at q is in
-    let r : IsKept told s = kept_by told s r₀ by me.0 at q is in let f : PassFits r.extents p q = (r.each by me.0 at).passes q is in
+pub pivots : (q : PassPart) (word row col : ℕ) → IsAt q → row ≡ (here q).row → (i : ℕ) × (col ≡ pivot_column i) × (i + 1 < slots_in q (here q)) → word ≡ column_at (kind_width q.shape.kind) row col → Loads LoadedPivot word q
+pivots q word row col here_at row_is pivot place ws e pen fit sound f =
+    let p : PenPart = shaped q pen in
     let x : Held = here q in
     let h = (f.held 0 x here_at).row in
     let width : Width = kind_width q.shape.kind in
     let i = pivot.0 in
-    let index : word ≡ column_at width x.row (pivot_column i) = place ∙ (λ j. column_at width (row_is j) (pivot.1 j)) in
-    let q' : PassPart = record q { seen = p.history } in (
-      record me.0 { pass = Some (counted q q') },
-      keeps,
-      tt,
-      loads_to told s r₀ by me.0 at q is word q' refl refl (sees_fits r.extents p q f),
-      (
-        record { view = refl; slots = refl; counted = refl },
-        record {
-          reads = record { is = refl; seen = f.seen };
-          found_is = ap (slice_index s.words) index
-              ∙ (word_now s.words p x.row (pivot_column i) r.words h.has.0
-              ∙ (pivot_now x.width width x.copy p.words (kind_of q x) x.row i (sym h.width) h.form pivot.2
-              ∙ ap (slice_index x.copy) (sym index)));
-        },
-      ),
-    )
+    let index : word ≡ column_at width x.row (pivot_column i) = place ∙ (λ j. column_at width (row_is j) (pivot.1 j)) in record {
+      after = record q { seen = p.history };
+      same = refl;
+      fits = sees_fits e p q f;
+      told = record {
+        reads = record { is = refl; seen = f.seen };
+        found_is = ap (slice_index ws) index
+            ∙ (word_now ws p x.row (pivot_column i) fit h.has.0
+            ∙ (pivot_now x.width width x.copy p.words (kind_of q x) x.row i (sym h.width) h.form pivot.2
+            ∙ ap (slice_index x.copy) (sym index)));
+      };
+    }
 
 -- other rows are held, on the same floor
 held_fits : (e : ℕ → Extent) (p : PenPart) (q : PassPart) (held : List Held) → PassFits e p q → ((j : ℕ) (x : Held) → get_elem? held j ≡ some x → IsHeldBy e p q x) → PassFits e p (record q { held = held })
@@ -423,67 +408,53 @@ leaf_read e p q x sound shape seen h leaf = subst (λ (z : Shape × List Moment)
         }
 
 -- a slot of a leaf
-entries : (told : TableStart) (slots by : ℕ) (me : M) (word col : ℕ) → HasPass me.0 → IsAt (pass_of me.0) → (here (pass_of me.0)).extent.level ≡ 0 → word ≡ column_at (kind_width (pass_of me.0).shape.kind) (here (pass_of me.0)).row col
-    → Allows (IsKept told) slots by me word (λ n. n) (loads_slot (step slots word 0 0 none) me)
-entries told slots by me word col is here_at leaf place s r₀ _ at _ =
-    let q = pass_of me.0 in let p : PenPart = part_by told s r₀ by me.0 at q is in
-    let r : IsKept told s = kept_by told s r₀ by me.0 at q is in let f : PassFits r.extents p q = (r.each by me.0 at).passes q is in
+entries : (q : PassPart) (word col : ℕ) → IsAt q → (here q).extent.level ≡ 0 → word ≡ column_at (kind_width q.shape.kind) (here q).row col → Loads LoadedSlot word q
+entries q word col here_at leaf place ws e pen fit sound f =
+    let p : PenPart = shaped q pen in
     let x : Held = here q in
     let h = (f.held 0 x here_at).row in
-    let q' : PassPart = record q { seen = p.history; held = as_known_now (state_in p) x ∷ held_behind q.held } in (
-      record me.0 { pass = Some (counted q q') },
-      keeps,
-      tt,
-      loads_to told s r₀ by me.0 at q is word q' refl refl (renewed_fits r.extents p q r.sound f here_at),
-      (
-        record { view = refl; slots = refl; counted = refl },
-        record {
-          entry = λ _. record {
-            reads = record { is = refl; seen = f.seen };
-            read = leaf_read r.extents p (counted q q') x r.sound refl refl h leaf;
-            found_is = ap (slice_index s.words) place ∙ (word_now s.words p x.row col r.words h.has.0 ∙ ap (slice_index p.words) (sym place));
-          };
-          child = λ inner. absurd (inner leaf);
-        },
-      ),
-    )
+    let after : PassPart = record q { seen = p.history; held = as_known_now (state_in p) x ∷ held_behind q.held } in record {
+      after = after;
+      same = refl;
+      fits = renewed_fits e p q sound f here_at;
+      told = record {
+        entry = λ _. record {
+          reads = record { is = refl; seen = f.seen };
+          read = leaf_read e p (counted q after) x sound refl refl h leaf;
+          found_is = ap (slice_index ws) place ∙ (word_now ws p x.row col fit h.has.0 ∙ ap (slice_index p.words) (sym place));
+        };
+        child = λ inner. absurd (inner leaf);
+      };
+    }
 
 -- a slot of an inner row, which leads to the child
-childs : (told : TableStart) (slots by : ℕ) (me : M) (word i level : ℕ) → HasPass me.0 → IsAt (pass_of me.0) → (here (pass_of me.0)).extent.level ≡ suc level → i < length (spans_here (pass_of me.0) (here (pass_of me.0)))
-    → word ≡ column_at (kind_width (pass_of me.0).shape.kind) (here (pass_of me.0)).row (slot_column (slots_in (pass_of me.0) (here (pass_of me.0))) i)
-    → Allows (IsKept told) slots by me word (λ n. n) (loads_slot (step slots word 0 0 none) me)
-childs told slots by me word i level is here_at inner low place s r₀ _ at _ =
-    let q = pass_of me.0 in let p : PenPart = part_by told s r₀ by me.0 at q is in
-    let r : IsKept told s = kept_by told s r₀ by me.0 at q is in let f : PassFits r.extents p q = (r.each by me.0 at).passes q is in
+childs : (q : PassPart) (word i level : ℕ) → IsAt q → (here q).extent.level ≡ suc level → i < length (spans_here q (here q)) → word ≡ column_at (kind_width q.shape.kind) (here q).row (slot_column (slots_in q (here q)) i) → Loads LoadedSlot word q
+childs q word i level here_at inner low place ws e pen fit sound f =
+    let p : PenPart = shaped q pen in
     let x : Held = here q in
     let held = f.held 0 x here_at in
     let h = held.row in
     let width : Width = kind_width q.shape.kind in
     let t = slot_now q.shape.kind x.width width x.copy p.words x.row i x.extent (sym h.width) h.form low in
-    let name : ℕ = slice_index s.words word in
-    let named : t.now.word ≡ name = t.word_is ∙ (sym (word_now s.words p x.row (slot_column (slots_in q x) i) r.words h.has.0) ∙ ap (slice_index s.words) (sym place)) in
-    let c = child_held q.shape.kind (state_in p) r.extents (moment_at q.shape p.history) r.sound.known x level t.now h inner (one_of_get (spans_at q.shape.kind (state_in p).tree.table x.row x.extent) i t.now t.at) in
+    let name : ℕ = slice_index ws word in
+    let named : t.now.word ≡ name = t.word_is ∙ (sym (word_now ws p x.row (slot_column (slots_in q x) i) fit h.has.0) ∙ ap (slice_index ws) (sym place)) in
+    let c = child_held q.shape.kind (state_in p) e (moment_at q.shape p.history) sound.known x level t.now h inner (one_of_get (spans_at q.shape.kind (state_in p).tree.table x.row x.extent) i t.now t.at) in
     let y : Held = come (state_in p) (row_in t.now.word) x.since (extent_at t.now level) in
-    let count = r.sound.history.count in
-    let q' : PassPart = record q { seen = p.history; held = y ∷ q.held } in (
-      record me.0 { pass = Some (counted q q') },
-      keeps,
-      tt,
-      loads_to told s r₀ by me.0 at q is word q' refl refl (child_fits r.extents p q y held.floor f c.held (omega arith) held.has held.since),
-      (
-        record { view = refl; slots = refl; counted = refl },
-        record {
-          entry = λ leaf. absurd (omega arith);
-          child = λ _. record {
-            reads = record { is = refl; seen = f.seen };
-            at = refl;
-            comes = record { row = ap row_in named; named = ap named_kind (sym named) ∙ c.named; has = c.held.has; since_is = refl; old = c.held.old; met = omega arith; width = refl; shape = c.held.shape };
-            level = omega arith;
-            covers = λ j z there at_j. t.same z (subst (λ (n : ℕ). slice_get (spans_here q x) n ≡ Some z) (same_slot width x.row (slots_in q x) i j (sym place ∙ there)) at_j);
-          };
-        },
-      ),
-    )
+    let count = sound.history.count in record {
+      after = record q { seen = p.history; held = y ∷ q.held };
+      same = refl;
+      fits = child_fits e p q y held.floor f c.held (omega arith) held.has held.since;
+      told = record {
+        entry = λ leaf. absurd (omega arith);
+        child = λ _. record {
+          reads = record { is = refl; seen = f.seen };
+          at = refl;
+          comes = record { row = ap row_in named; named = ap named_kind (sym named) ∙ c.named; has = c.held.has; since_is = refl; old = c.held.old; met = omega arith; width = refl; shape = c.held.shape };
+          level = omega arith;
+          covers = λ j z there at_j. t.same z (subst (λ (n : ℕ). slice_get (spans_here q x) n ≡ Some z) (same_slot width x.row (slots_in q x) i j (sym place ∙ there)) at_j);
+        };
+      };
+    }
   where
     child_fits : (e : ℕ → Extent) (p : PenPart) (q : PassPart) (y : Held) (n : ℕ) → PassFits e p q → HoldsRow p.shape.kind (state_in p) e (moment_at p.shape p.history) y → y.met ≤ length p.history → q.floor ≡ Some n → n ≤ y.since
         → PassFits e p (record q { seen = p.history; held = y ∷ q.held })
@@ -496,14 +467,12 @@ childs told slots by me word i level is here_at inner low place s r₀ _ at _ =
     same_slot : (width : Width) (row slots i j : ℕ) → column_at width row (slot_column slots i) ≡ column_at width row (slot_column slots j) → j ≡ i
     same_slot width row slots i j e = omega arith
 
-pub slots_at : (told : TableStart) (slots by : ℕ) (me : M) (word row col : ℕ) → HasPass me.0 → IsAt (pass_of me.0) → row ≡ (here (pass_of me.0)).row
-    → (i : ℕ) × (col ≡ slot_column (slots_in (pass_of me.0) (here (pass_of me.0))) i) × (i < length (spans_here (pass_of me.0) (here (pass_of me.0)))) → word ≡ column_at (kind_width (pass_of me.0).shape.kind) row col
-    → Allows (IsKept told) slots by me word (λ n. n) (loads_slot (step slots word 0 0 none) me)
-slots_at told slots by me word row col is here_at row_is slot place =
-    let width : Width = kind_width (pass_of me.0).shape.kind in
-    elim (cases_eq (here (pass_of me.0)).extent.level 0) [
-      | inl leaf ↦ entries told slots by me word col is here_at leaf (place ∙ (λ j. column_at width (row_is j) col))
-      | inr inner ↦ childs told slots by me word slot.0 ((here (pass_of me.0)).extent.level - 1) is here_at (omega arith) slot.2 (place ∙ (λ j. column_at width (row_is j) (slot.1 j)))
+pub slots_at : (q : PassPart) (word row col : ℕ) → IsAt q → row ≡ (here q).row → (i : ℕ) × (col ≡ slot_column (slots_in q (here q)) i) × (i < length (spans_here q (here q))) → word ≡ column_at (kind_width q.shape.kind) row col → Loads LoadedSlot word q
+slots_at q word row col here_at row_is slot place =
+    let width : Width = kind_width q.shape.kind in
+    elim (cases_eq (here q).extent.level 0) [
+      | inl leaf ↦ entries q word col here_at leaf (place ∙ (λ j. column_at width (row_is j) col))
+      | inr inner ↦ childs q word slot.0 ((here q).extent.level - 1) here_at (omega arith) slot.2 (place ∙ (λ j. column_at width (row_is j) (slot.1 j)))
     ]
 
 -- ---- the mark
@@ -528,24 +497,18 @@ parent_tells e p q marks x n sound h is = record {
 marked_fits : (e : ℕ → Extent) (p : PenPart) (q : PassPart) (marks : List ℕ) → PassFits e p q → PassFits e p (record q { marks = marks })
 marked_fits e p q marks = beside_fits e p q p.dealt p.sections q.steps marks (omega arith)
 
-pub parents : (told : TableStart) (slots by : ℕ) (me : M) (row word : ℕ) → HasPass me.0 → Allows (IsKept told) slots by me word (λ n. n) (loads_parent row (step slots word 0 0 none) me)
-parents told slots by me row word is s r₀ _ at _ =
-    let q = pass_of me.0 in let p : PenPart = part_by told s r₀ by me.0 at q is in
-    let r : IsKept told s = kept_by told s r₀ by me.0 at q is in let f : PassFits r.extents p q = (r.each by me.0 at).passes q is in
+pub parents : (q : PassPart) (row word : ℕ) → Loads (LoadedParent row) word q
+parents q row word ws e pen fit sound f =
+    let p : PenPart = shaped q pen in
     let more = begins_long q.seen p.history f.seen in
-    let marks = marks_with row (slice_index s.words word) q.marks in
-    let q' : PassPart = record q { seen = p.history; risen = begun_by p; marks = marks } in (
-      record me.0 { pass = Some (counted q q') },
-      keeps,
-      tt,
-      loads_to told s r₀ by me.0 at q is word q' refl refl (marked_fits r.extents p (record q { seen = p.history; risen = begun_by p }) marks (all_fit r.extents p q q.ended q.epoch (begun_by p) f (let a = f.ended in omega arith) f.over f.epoch (omega arith))),
-      (
-        record { view = refl; slots = refl; counted = refl },
-        record {
-          reads = record { is = refl; seen = f.seen };
-          risen = f.risen;
-          tells = λ j x at_j there. let h = f.held j x at_j in
-              parent_tells r.extents p q marks x (slice_index s.words word) r.sound h (ap (slice_index s.words) there ∙ word_now s.words p x.row 0 r.words h.row.has.0);
-        },
-      ),
-    )
+    let marks = marks_with row (slice_index ws word) q.marks in record {
+      after = record q { seen = p.history; risen = begun_by p; marks = marks };
+      same = refl;
+      fits = marked_fits e p (record q { seen = p.history; risen = begun_by p }) marks (all_fit e p q q.ended q.epoch (begun_by p) f (let a = f.ended in omega arith) f.over f.epoch (omega arith));
+      told = record {
+        reads = record { is = refl; seen = f.seen };
+        risen = f.risen;
+        tells = λ j x at_j there. let h = f.held j x at_j in
+            parent_tells e p q marks x (slice_index ws word) sound h (ap (slice_index ws) there ∙ word_now ws p x.row 0 fit h.row.has.0);
+      };
+    }

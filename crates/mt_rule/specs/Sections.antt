@@ -1,16 +1,18 @@
 -- What a handle that reads without the lock learns from its steps.
 -- Source: this project's own; the kernel's readers walk between rcu_read_lock and rcu_read_unlock.
 use Rattle.std.specs.Prelude.{◌≡◌, ◌≢◌, ℕ, ◌+◌, ◌*◌, ◌<◌, ◌≤◌, ◌==◌, List, [], ◌∷◌, ◌++◌, Option, Some, None, length, slice_index, slice_get, if◌then◌else◌}
-use mathlib.Core.Option.{some}
+use mathlib.Core.Option.{none, some}
 use lib.ListN.{get_elem?}
-use Rattle.atomic_table.specs.Table.{Step}
+use Rattle.atomic_table.specs.Table.{Allows, Step, step}
 use Rattle.mt_rule.specs.Prelude.{Long, IsMap, Begins, kind_width, greatest, deepest, RowKind, Span, slot_column, dead_mark, named_kind, row_in, slots_of, Held, Snapshot, copy_of, HasPart, HasRow, SameForm, Shape, spans_at, kind_at, inner_kind, most_calls}
 use Rattle.mt_base.specs.Passes as known
 use Rattle.mt_life.specs.declared.views.Moment as life
 use Rattle.mt_rule.specs.declared.views.Moment.{Moment}
 use Rattle.mt_rule.specs.declared.views.PassPart.{PassPart}
+use Rattle.mt_rule.specs.declared.views.TableStart.{TableStart}
 use Rattle.mt_rule.specs.Places.{column_at}
-use Rattle.mt_rule.specs.Seats.{known_by, moment_at, pass_of, tree_of}
+use Rattle.mt_rule.specs.Rule.{IsKept}
+use Rattle.mt_rule.specs.Seats.{HasPass, known_by, moment_at, pass_of, tree_of}
 use Rattle.mt_rule.specs.Steps.{Seat}
 
 -- ---- the nodes that a section holds
@@ -185,14 +187,13 @@ pub record LoadedBegun (found : ℕ) (q q' : PassPart) : Type 0 where
 
 -- ---- the plays
 
--- Nothing else of the seat has changed. The handle has made one step more.
+-- Nothing else of the seat has changed, and the handle is the one that it was. It has made one step more.
 pub record OfPass (me me' : Seat) : Type 0 where
   pub view : me'.0 ≡ record me.0 { pass = Some (pass_of me'.0) }
   pub slots : me'.1 ≡ me.1
+  pub shape : (pass_of me'.0).shape ≡ (pass_of me.0).shape
+  pub number : (pass_of me'.0).number ≡ (pass_of me.0).number
   pub counted : (pass_of me'.0).steps ≡ (pass_of me.0).steps + 1
-
-abbrev pub loads_commits : Step (Unit {0}) → Seat → ℕ → Seat → Type 0
-loads_commits step me found me' = OfPass me me' × LoadedCommits found (pass_of me.0) (pass_of me'.0)
 
 abbrev pub opens_section : Step (Unit {0}) → Seat → ℕ → Seat → Type 0
 opens_section step me found me' = OfPass me me' × (pass_of me'.0 ≡ opened_section (pass_of me.0))
@@ -200,20 +201,14 @@ opens_section step me found me' = OfPass me me' × (pass_of me'.0 ≡ opened_sec
 abbrev pub closes_section : Step (Unit {0}) → Seat → ℕ → Seat → Type 0
 closes_section step me found me' = OfPass me me' × (pass_of me'.0 ≡ closed_section (pass_of me.0))
 
-abbrev pub loads_root : Step (Unit {0}) → Seat → ℕ → Seat → Type 0
-loads_root step me found me' = OfPass me me' × LoadedRoot found (pass_of me.0) (pass_of me'.0)
+-- A word was loaded. What that tells goes by the word's place, what was found, and the handle before and after.
+abbrev pub loads_word : (ℕ → ℕ → PassPart → PassPart → Type 0) → Step (Unit {0}) → Seat → ℕ → Seat → Type 0
+loads_word tells step me found me' = OfPass me me' × tells step.word found (pass_of me.0) (pass_of me'.0)
 
-abbrev pub loads_pivot : Step (Unit {0}) → Seat → ℕ → Seat → Type 0
-loads_pivot step me found me' = OfPass me me' × LoadedPivot step.word found (pass_of me.0) (pass_of me'.0)
+-- a load that tells no more than that the handle is another
+abbrev pub touches : ℕ → ℕ → PassPart → PassPart → Type 0
+touches word found q q' = q' ≡ touched q
 
-abbrev pub touches : Step (Unit {0}) → Seat → ℕ → Seat → Type 0
-touches step me found me' = OfPass me me' × (pass_of me'.0 ≡ touched (pass_of me.0))
-
-abbrev pub loads_slot : Step (Unit {0}) → Seat → ℕ → Seat → Type 0
-loads_slot step me found me' = OfPass me me' × LoadedSlot step.word found (pass_of me.0) (pass_of me'.0)
-
-abbrev pub loads_parent : ℕ → Step (Unit {0}) → Seat → ℕ → Seat → Type 0
-loads_parent row step me found me' = OfPass me me' × LoadedParent row step.word found (pass_of me.0) (pass_of me'.0)
-
-abbrev pub loads_begun : Step (Unit {0}) → Seat → ℕ → Seat → Type 0
-loads_begun step me found me' = OfPass me me' × LoadedBegun found (pass_of me.0) (pass_of me'.0)
+-- A handle that knows this may load the word at this place. The load keeps the rule, and tells what it is said to tell.
+abbrev pub MayLoadWord : (ℕ → ℕ → PassPart → PassPart → Type 0) → TableStart → ℕ → PassPart → Type 0
+MayLoadWord tells told word q = (slots by : ℕ) (me : Seat) → HasPass me.0 → pass_of me.0 ≡ q → Allows (IsKept told) slots by me word (λ n. n) (loads_word tells (step slots word 0 0 none) me)

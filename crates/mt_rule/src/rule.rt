@@ -231,15 +231,6 @@ impl<M: Announced> Play<(), View> for EndsCall<M> {
     ghost then = { ends_call M.call M.reply };
 }
 
-/// A handle loads the number of ended calls.
-pub(crate) struct LoadsCommits;
-
-impl Play<(), View> for LoadsCommits {
-    ghost use Rattle.mt_rule.specs.Sections.{loads_commits};
-
-    ghost then = { loads_commits };
-}
-
 /// A handle opens a section.
 pub(crate) struct OpensSection;
 
@@ -258,58 +249,37 @@ impl Play<(), View> for ClosesSection {
     ghost then = { closes_section };
 }
 
-/// A handle loads the root word.
-pub(crate) struct LoadsRoot;
+/// What a handle loads, and what it then knows: by the word's place, what was found there, and the handle before and after.
+pub(crate) trait Loads {
+    ghost use Rattle.mt_rule.specs.declared.views.PassPart.{PassPart};
 
-impl Play<(), View> for LoadsRoot {
-    ghost use Rattle.mt_rule.specs.Sections.{loads_root};
-
-    ghost then = { loads_root };
+    ghost tells: { ℕ → ℕ → PassPart → PassPart → Type 0 };
 }
 
-/// A handle loads a pivot of the node that its section is at.
-pub(crate) struct LoadsPivot;
-
-impl Play<(), View> for LoadsPivot {
-    ghost use Rattle.mt_rule.specs.Sections.{loads_pivot};
-
-    ghost then = { loads_pivot };
+/// A handle loads a word.
+pub(crate) struct LoadsWord<T> {
+    loaded: PhantomData<T>,
 }
 
-/// A handle loads a word of which it wants to know nothing.
-pub(crate) struct Touches;
+impl<T: Loads> Play<(), View> for LoadsWord<T> {
+    ghost use Rattle.mt_rule.specs.Sections.{loads_word};
 
-impl Play<(), View> for Touches {
+    ghost then = { loads_word T.tells };
+}
+
+impl Loads for Brand {
     ghost use Rattle.mt_rule.specs.Sections.{touches};
 
-    ghost then = { touches };
+    ghost tells = { touches };
 }
 
-/// A handle loads a slot of that node.
-pub(crate) struct LoadsSlot;
-
-impl Play<(), View> for LoadsSlot {
-    ghost use Rattle.mt_rule.specs.Sections.{loads_slot};
-
-    ghost then = { loads_slot };
-}
-
-/// A handle loads the parent word of a node.
-pub(crate) struct LoadsParent<M> {
+/// The parent word of a node.
+pub(crate) struct ParentWord<M> {
     announced: PhantomData<M>,
 }
 
-impl<M: Announced> Play<(), View> for LoadsParent<M> {
-    ghost use Rattle.mt_rule.specs.Sections.{loads_parent};
+impl<M: Announced> Loads for ParentWord<M> {
+    ghost use Rattle.mt_rule.specs.Sections.{LoadedParent};
 
-    ghost then = { loads_parent M.number };
-}
-
-/// A handle loads the number of calls that have begun.
-pub(crate) struct LoadsBegun;
-
-impl Play<(), View> for LoadsBegun {
-    ghost use Rattle.mt_rule.specs.Sections.{loads_begun};
-
-    ghost then = { loads_begun };
+    ghost tells = { LoadedParent M.number };
 }

@@ -8,15 +8,12 @@ ghost use Rattle.mt_layout.specs.Columns.{pivot_column, slot_column};
 ghost use Rattle.mt_life.specs.Known.{HasRow};
 ghost use Rattle.mt_rule.specs.Places.{column_at, IsRowAt};
 ghost use Rattle.mt_rule.specs.Sections.{IsAt, here, slots_in, spans_here, opened_section, closed_section, touched, LoadedBegun};
-ghost use Rattle.mt_rule.specs.Sections.{LoadedCommits, LoadedParent, LoadedPivot, LoadedRoot, LoadedSlot};
+ghost use Rattle.mt_rule.specs.Sections.{LoadedCommits, LoadedParent, LoadedPivot, LoadedRoot, LoadedSlot, MayLoadWord};
 ghost use Rattle.mt_rule.specs.Tokens.{identity_of, part_of, pass_in, steps_made, tree_in, IsPassOf, Stepped};
 
 use crate::passes::Pass;
 use crate::places::RowAt;
-use crate::rule::{
-    Announced, ClosesSection, LoadsBegun, LoadsCommits, LoadsParent, LoadsPivot, LoadsRoot,
-    LoadsSlot, OpensSection, Touches,
-};
+use crate::rule::{Announced, ClosesSection, Loads, LoadsWord, OpensSection, ParentWord};
 use crate::table::{BEGUN, COMMITS, MtTable, ROOT, section_index};
 use atomic_table::Badge;
 use mt_base::Steps;
@@ -35,6 +32,25 @@ impl MtTable {
         row.base + col as usize
     }
 
+    /// A step that loads a word.
+    #[inline(always)]
+    fn load_as<T: Loads, L: Ledger>(&self, pass: &mut Pass, at: usize, steps: &mut Steps<L>) -> u64
+        requires pass { IsPassOf (identity_of self.now) pass.old }
+        requires at { at < self.now.table.shared.table_id.words }
+        requires may { MayLoadWord T.tells self.now.table.shared.key at (part_of pass.old) }
+        ensures stepped { Stepped (identity_of self.now) pass.old pass.new }
+        ensures told { T.tells at result (part_of pass.old) (part_of pass.new) }
+        ensures counted { steps_made pass.new ≡ steps_made pass.old + 1 }
+        ensures steps { steps.new ≡ steps.old + 1 }
+    {
+        steps.tick();
+        let badge = mem::replace(&mut pass.seat, Badge::blank());
+        let mut seat = badge.into_seat::<()>();
+        let word = self.table.shared.load::<LoadsWord<T>>(&mut seat, at);
+        pass.seat = seat.into_badge();
+        word
+    }
+
     /// How many calls have ended.
     pub fn load_commits<L: Ledger>(&self, pass: &mut Pass, steps: &mut Steps<L>) -> u64
         requires pass { IsPassOf (identity_of self.now) pass.old }
@@ -43,12 +59,7 @@ impl MtTable {
         ensures counted { steps_made pass.new ≡ steps_made pass.old + 1 }
         ensures steps { steps.new ≡ steps.old + 1 }
     {
-        steps.tick();
-        let badge = mem::replace(&mut pass.seat, Badge::blank());
-        let mut seat = badge.into_seat::<()>();
-        let word = self.table.shared.load::<LoadsCommits>(&mut seat, COMMITS);
-        pass.seat = seat.into_badge();
-        word
+        self.load_as::<Brand, L>(pass, COMMITS, steps)
     }
 
     /// Opens the handle's section at the epoch that it loaded last. It holds no node yet.
@@ -79,12 +90,7 @@ impl MtTable {
         ensures counted { steps_made pass.new ≡ steps_made pass.old + 1 }
         ensures steps { steps.new ≡ steps.old + 1 }
     {
-        steps.tick();
-        let badge = mem::replace(&mut pass.seat, Badge::blank());
-        let mut seat = badge.into_seat::<()>();
-        let word = self.table.shared.load::<LoadsRoot>(&mut seat, ROOT);
-        pass.seat = seat.into_badge();
-        word
+        self.load_as::<Brand, L>(pass, ROOT, steps)
     }
 
     /// A pivot column of the node that the section is at.
@@ -106,13 +112,8 @@ impl MtTable {
         ensures counted { steps_made pass.new ≡ steps_made pass.old + 1 }
         ensures steps { steps.new ≡ steps.old + 1 }
     {
-        steps.tick();
-        let badge = mem::replace(&mut pass.seat, Badge::blank());
-        let mut seat = badge.into_seat::<()>();
         let at = self.column_in(row, col);
-        let word = self.table.shared.load::<LoadsPivot>(&mut seat, at);
-        pass.seat = seat.into_badge();
-        word
+        self.load_as::<Brand, L>(pass, at, steps)
     }
 
     /// Loads a column of a node, only so that its cache line is at hand when one beside it is loaded. Nothing is known of the
@@ -128,12 +129,8 @@ impl MtTable {
         ensures counted { steps_made pass.new ≡ steps_made pass.old + 1 }
         ensures steps { steps.new ≡ steps.old + 1 }
     {
-        steps.tick();
-        let badge = mem::replace(&mut pass.seat, Badge::blank());
-        let mut seat = badge.into_seat::<()>();
         let at = self.column_in(row, col);
-        self.table.shared.load::<Touches>(&mut seat, at);
-        pass.seat = seat.into_badge();
+        self.load_as::<Brand, L>(pass, at, steps);
     }
 
     /// The slot column of an item of the node that the section is at. In an inner node this reaches the child.
@@ -157,13 +154,8 @@ impl MtTable {
         ensures counted { steps_made pass.new ≡ steps_made pass.old + 1 }
         ensures steps { steps.new ≡ steps.old + 1 }
     {
-        steps.tick();
-        let badge = mem::replace(&mut pass.seat, Badge::blank());
-        let mut seat = badge.into_seat::<()>();
         let at = self.column_in(row, col);
-        let word = self.table.shared.load::<LoadsSlot>(&mut seat, at);
-        pass.seat = seat.into_badge();
-        word
+        self.load_as::<Brand, L>(pass, at, steps)
     }
 
     /// The parent column of a node, which shows the dead mark.
@@ -177,11 +169,15 @@ impl MtTable {
         ensures counted { steps_made pass.new ≡ steps_made pass.old + 1 }
         ensures steps { steps.new ≡ steps.old + 1 }
     {
-        steps.tick();
-        self.load_parent_of::<Brand>(pass, row)
+        self.load_parent_of::<Brand, L>(pass, row, steps)
     }
 
-    fn load_parent_of<M: Announced>(&self, pass: &mut Pass, row: RowAt) -> u64
+    fn load_parent_of<M: Announced, L: Ledger>(
+        &self,
+        pass: &mut Pass,
+        row: RowAt,
+        steps: &mut Steps<L>,
+    ) -> u64
         requires pass { IsPassOf (identity_of self.now) pass.old }
         requires base { IsRowAt (kind_width (part_of pass.old).shape.kind) row }
         requires row { HasRow (part_of pass.old).shape.rows row.number }
@@ -190,13 +186,10 @@ impl MtTable {
         ensures told { LoadedParent row.number
             (column_at (kind_width (part_of pass.old).shape.kind) row.number 0) result (part_of pass.old) (part_of pass.new) }
         ensures counted { steps_made pass.new ≡ steps_made pass.old + 1 }
+        ensures steps { steps.new ≡ steps.old + 1 }
     {
-        let badge = mem::replace(&mut pass.seat, Badge::blank());
-        let mut seat = badge.into_seat::<()>();
         let at = self.column_in(row, 0);
-        let word = self.table.shared.load::<LoadsParent<M>>(&mut seat, at);
-        pass.seat = seat.into_badge();
-        word
+        self.load_as::<ParentWord<M>, L>(pass, at, steps)
     }
 
     /// How many calls have begun.
@@ -208,12 +201,7 @@ impl MtTable {
         ensures counted { steps_made pass.new ≡ steps_made pass.old + 1 }
         ensures steps { steps.new ≡ steps.old + 1 }
     {
-        steps.tick();
-        let badge = mem::replace(&mut pass.seat, Badge::blank());
-        let mut seat = badge.into_seat::<()>();
-        let word = self.table.shared.load::<LoadsBegun>(&mut seat, BEGUN);
-        pass.seat = seat.into_badge();
-        word
+        self.load_as::<Brand, L>(pass, BEGUN, steps)
     }
 
     /// Closes the handle's section. It then holds no node.
