@@ -87,6 +87,7 @@ fn one_more_up(below: Below, slot: u32, span: Span, sure: bool) -> Below
 }
 
 /// Takes what a slot of a node with gaps holds, if it may have room. Returns whether nothing after it has to be looked at.
+#[inline(always)]
 fn take_slot<R: Rows>(
     rows: &mut R,
     side: Side,
@@ -112,7 +113,8 @@ fn take_slot<R: Rows>(
 }
 
 /// What a search goes into below a node with gaps, which covers the indexes from `first` to `max`.
-fn look_below<R: Rows>(
+#[inline(always)]
+fn look_along<R: Rows>(
     rows: &mut R,
     side: Side,
     row: u32,
@@ -139,6 +141,25 @@ fn look_below<R: Rows>(
         begin = last + 1;
     }
     below
+}
+
+/// What a search goes into below a node with gaps. Each side has a loop of its own.
+fn look_below<R: Rows>(
+    rows: &mut R,
+    side: Side,
+    row: u32,
+    first: u64,
+    max: u64,
+    window: Window,
+) -> Below
+    requires row { IsPlace (R.sheet rows.old).tree row 0 }
+    ensures below { IsSearchedBelow side window (row_children (R.sheet rows.old).tree.table row Gapped first max) result }
+    ensures reads { ReadsUpTo (columns (R.sheet rows.old).tree.table.width) (R.sheet rows.old) (R.sheet rows.new) }
+{
+    match side {
+        Side::Low => look_along(rows, Side::Low, row, first, max, window),
+        Side::High => look_along(rows, Side::High, row, first, max, window),
+    }
 }
 
 /// The node that a span names, if it is one with gaps.

@@ -2,9 +2,9 @@ use Rattle.mt_gap.proofs.Prelude.{◌≡◌, ◌++◌, [], ◌∷◌, false, ref
 use Rattle.mt_gap.specs.declared.ways.Below.TheVariants as below_row
 use Rattle.mt_gap.proofs.RowReads.{AtSlot, read_none, tree_is, slot_on, slot_last, slot_part, read_all}
 use Rattle.mt_gap.proofs.OneWay.{HasLooked, looked_none, looked_on, looked_stops, looked_all}
-use Rattle.mt_gap.proofs.ways.look_below.Given.{Over}
-use Rattle.mt_gap.proofs.ways.look_below.Goals.{After-load_last-last, After-take_slot}
-use Rattle.mt_gap.proofs.ways.look_below.Goals as goal
+use Rattle.mt_gap.proofs.ways.look_along.Given.{Over}
+use Rattle.mt_gap.proofs.ways.look_along.Goals.{After-load_last-last, After-take_slot}
+use Rattle.mt_gap.proofs.ways.look_along.Goals as goal
 
 -- the slot that is taken
 at_slot : (g : Over) (c : After-load_last-last g) → AtSlot (g.R.Rows.sheet c.args.rows.now) (g.R.Rows.sheet c.loop-slot.rows) (g.R.Rows.sheet c.load_last-last.new.rows) Gapped c.args.row c.args.first c.args.max c.loop-slot.slot c.loop-slot.begin c.load_last-last.result c.loop-slot.invariant.before
