@@ -1,20 +1,28 @@
 -- What is left of a read that was given up, and a bound of what begins behind an index.
 use Rattle.mt_read.proofs.Prelude.{◌≡◌, ℕ, [], ◌∷◌, length, Option, refl, sym, ap, ◌∙◌, subst, arith, length-map, Kind, Range, Query, Next, Prev, Rfind, IsMap, greatest_of, begins_long, PassPart, known_by, record_of, moment_seen, Identity, tree_in, Answers, not_below, within, LeftMarked, WasLeftMarked, WasMoved, asked, Began, Ended, HasRead}
 use Rattle.mt_base.specs.Passes as known
+use Rattle.mt_read.specs.declared.ways.Way.{Way}
+use Rattle.mt_read.specs.declared.ways.Way.TheVariants as ways
+use Rattle.mt_read.specs.Ways.{bounded, query_by, whole_query}
 use Rattle.mt_read.proofs.LastAnswers.{prev_within, rfind_within}
 use Rattle.mt_read.proofs.NextAnswers.{next_within}
 use Rattle.mt_read.proofs.Windows.{alike, has_read, marks_after}
 
-pub next_bounded : (q : PassPart) (kind : Kind) (least index max : ℕ) (value : Option Range) → q.shape.kind ≡ kind → Answers q least (Next index (greatest_of kind)) value → Answers q least (Next index max) (within 0 max value)
+next_bounded : (q : PassPart) (kind : Kind) (least index max : ℕ) (value : Option Range) → q.shape.kind ≡ kind → Answers q least (Next index (greatest_of kind)) value → Answers q least (Next index max) (within 0 max value)
 next_bounded q kind least index max value same a =
     alike q least (Next index (greatest_of kind)) (Next index max) (within 0 max) value (λ k map. next_within kind (moment_seen q k).ranges index max (subst (λ (z : Kind). IsMap z (moment_seen q k).ranges) same map)) a
 
-pub rfind_bounded : (q : PassPart) (least index min : ℕ) (value : Option Range) → Answers q least (Rfind index 0) value → Answers q least (Rfind index min) (not_below index min value)
+rfind_bounded : (q : PassPart) (least index min : ℕ) (value : Option Range) → Answers q least (Rfind index 0) value → Answers q least (Rfind index min) (not_below index min value)
 rfind_bounded q least index min value a =
     alike q least (Rfind index 0) (Rfind index min) (not_below index min) value (λ k map. rfind_within q.shape.kind (moment_seen q k).ranges index min map) a
 
-pub prev_bounded : (q : PassPart) (least index min : ℕ) (value : Option Range) → Answers q least (Prev index 0) value → Answers q least (Prev index min) (not_below min min value)
+prev_bounded : (q : PassPart) (least index min : ℕ) (value : Option Range) → Answers q least (Prev index 0) value → Answers q least (Prev index min) (not_below min min value)
 prev_bounded q least index min value a = alike q least (Prev index 0) (Prev index min) (not_below min min) value (λ k map. prev_within q.shape.kind (moment_seen q k).ranges index min map) a
+
+pub way_bounded : (way : Way) (q : PassPart) (kind : Kind) (least index bound : ℕ) (value : Option Range) → q.shape.kind ≡ kind → Answers q least (whole_query way kind index) value → Answers q least (query_by way index bound) (bounded way index bound value)
+way_bounded ways.Next q kind least index bound value same a = next_bounded q kind least index bound value same a
+way_bounded ways.Prev q kind least index bound value same a = prev_bounded q least index bound value a
+way_bounded ways.Rfind q kind least index bound value same a = rfind_bounded q least index bound value a
 
 -- ---- given up
 

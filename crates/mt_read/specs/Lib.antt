@@ -5,5 +5,6 @@ pub mod Many
 pub mod Neighbours
 pub mod Seeks
 pub mod Walks
+pub mod Ways
 pub mod Windows
 pub mod Prelude

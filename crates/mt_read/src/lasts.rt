@@ -1,21 +1,16 @@
 //! Reads that look for the last range before an index.
 
-ghost use Rattle.std.specs.Prelude.{◌≡◌, ◌≢◌, ℕ, ◌+◌, ◌-◌, ◌<◌, ◌≤◌, Some, None, IfSome, IfNone, IfOk, IfErr, length};
+ghost use Rattle.std.specs.Prelude.{◌≡◌, ◌≢◌, ◌+◌, ◌-◌, ◌<◌, ◌≤◌, Some, None, IfSome, IfNone, length};
 ghost use Rattle.mt_base.specs.declared.calls.Query.TheVariants.{Prev, Rfind};
-ghost use Rattle.mt_base.specs.Passes as known;
 ghost use Rattle.mt_rule.specs.Sections.{here};
-ghost use Rattle.mt_rule.specs.Tokens.{identity_of, part_of, pass_in, tree_in, IsPassOf, Stepped, IsCounted};
+ghost use Rattle.mt_rule.specs.Tokens.{identity_of, part_of, IsPassOf, Stepped, IsCounted};
 ghost use Rattle.mt_read.specs.Answers.{Answers, AnswersBy, LeafAnswers};
-ghost use Rattle.mt_read.specs.Neighbours.{IsLeafBefore, LeftHole, LeftMarked, MarkedBeside, WasLeftMarked, WasMoved, asked};
+ghost use Rattle.mt_read.specs.Neighbours.{IsLeafBefore, LeftHole, LeftMarked, MarkedBeside, asked};
 ghost use Rattle.mt_read.specs.Walks.{GoesOn, IsOnLeaf, IsPlaceIn, IsSameHold, SeesMore, WasRead};
-ghost use Rattle.mt_read.specs.Windows.{HasRead};
 
-use crate::bounds::not_below;
 use crate::descent::{Row, SlotPlace, find_slot, sought, walk};
-use crate::neighbours::Moved;
 use crate::reads::range_at;
-use crate::sections::Section;
-use mt_base::{Range, Read, Steps, top};
+use mt_base::{Range, Steps, top};
 use mt_layout::is_dead_mark;
 use mt_rule::{MtTable, Pass};
 use std::sync::ledger::Ledger;
@@ -158,7 +153,7 @@ fn last_from<L: Ledger>(
 
 /// The last range that begins at an index or below, by a walk from the root. There is no answer where the leaf that covers the
 /// index is found marked after the leaf before it was read.
-fn rfind_from<L: Ledger>(
+pub fn rfind_from<L: Ledger>(
     table: &MtTable,
     pass: &mut Pass,
     index: u64,
@@ -216,7 +211,7 @@ fn prev_at_leaf<L: Ledger>(
 
 /// The last range that ends below an index, by a walk from the root. There is no answer where the leaf that covers the index is
 /// found marked after the leaf before it was read. Below an index above the greatest end those that begin at that or below.
-fn prev_from<L: Ledger>(
+pub fn prev_from<L: Ledger>(
     table: &MtTable,
     pass: &mut Pass,
     index: u64,
@@ -240,76 +235,4 @@ fn prev_from<L: Ledger>(
         return Some(None);
     };
     prev_at_leaf(table, pass, &leaf, index, steps)
-}
-
-/// The last range that begins at an index or below, and ends at `min` or above. There is none if the index is below `min`.
-///
-/// # Errors
-///
-/// `Moved` where the leaf of the index has no answer, and was found marked as dead after the leaf beside it was read: more than
-/// `lo` calls have begun.
-pub fn rfind<L: Ledger>(
-    table: &MtTable,
-    pass: &mut Pass,
-    index: u64,
-    min: u64,
-    steps: &mut Steps<L>,
-) -> Result<Read<Option<Range>>, Moved>
-    requires pass { IsPassOf (identity_of table.now) pass.old }
-    ensures stepped { Stepped (identity_of table.now) pass.old pass.new }
-    ensures read { IfOk result (λ answer. (k : ℕ)
-        × known.Read (tree_in (identity_of table.now)) (pass_in pass.old) answer.lo answer.hi k (Rfind index min) answer.value (pass_in pass.new)) }
-    ensures section { IfOk result (λ answer. HasRead answer.lo answer.hi (pass_in pass.old) (pass_in pass.new)) }
-    ensures moved { IfErr result (λ moved. WasMoved (tree_in (identity_of table.now)) (pass_in pass.old) moved.lo moved.begun (pass_in pass.new)) }
-    ensures given_up { IfErr result (λ moved. HasRead moved.lo moved.begun (pass_in pass.old) (pass_in pass.new)) }
-    ensures left { IfErr result (λ moved. WasLeftMarked (Rfind index 0) moved.lo moved.begun (part_of pass.old) (part_of pass.new)) }
-    ensures counted { IsCounted pass.old pass.new steps.old steps.new }
-    ensures steps { steps.new ≤ steps.old + 360 }
-{
-    let section = Section::begin(table, pass, steps);
-    let lo = section.epoch();
-    let found = rfind_from(table, pass, index, steps);
-    let begun = section.end(table, pass, steps);
-    let range = found.ok_or(Moved { lo, begun })?;
-    Ok(Read {
-        lo,
-        hi: begun,
-        value: not_below(range, index, min),
-    })
-}
-
-/// The last range that ends below an index, and at `min` or above.
-///
-/// # Errors
-///
-/// `Moved` where the leaf of the index has no answer, and was found marked as dead after the leaf beside it was read: more than
-/// `lo` calls have begun.
-pub fn prev<L: Ledger>(
-    table: &MtTable,
-    pass: &mut Pass,
-    index: u64,
-    min: u64,
-    steps: &mut Steps<L>,
-) -> Result<Read<Option<Range>>, Moved>
-    requires pass { IsPassOf (identity_of table.now) pass.old }
-    ensures stepped { Stepped (identity_of table.now) pass.old pass.new }
-    ensures read { IfOk result (λ answer. (k : ℕ)
-        × known.Read (tree_in (identity_of table.now)) (pass_in pass.old) answer.lo answer.hi k (Prev index min) answer.value (pass_in pass.new)) }
-    ensures section { IfOk result (λ answer. HasRead answer.lo answer.hi (pass_in pass.old) (pass_in pass.new)) }
-    ensures moved { IfErr result (λ moved. WasMoved (tree_in (identity_of table.now)) (pass_in pass.old) moved.lo moved.begun (pass_in pass.new)) }
-    ensures given_up { IfErr result (λ moved. HasRead moved.lo moved.begun (pass_in pass.old) (pass_in pass.new)) }
-    ensures left { IfErr result (λ moved. WasLeftMarked (Prev index 0) moved.lo moved.begun (part_of pass.old) (part_of pass.new)) }
-    ensures counted { IsCounted pass.old pass.new steps.old steps.new }
-    ensures steps { steps.new ≤ steps.old + 360 }
-{
-    let section = Section::begin(table, pass, steps);
-    let lo = section.epoch();
-    let found = prev_from(table, pass, index, steps);
-    let begun = section.end(table, pass, steps);
-    let range = found.ok_or(Moved { lo, begun })?;
-    Ok(Read {
-        lo,
-        hi: begun,
-        value: not_below(range, min, min),
-    })
 }

@@ -13,10 +13,11 @@ mod queries;
 mod reads;
 mod sections;
 mod seeks;
+mod ways;
 
 pub use cursor::Cursor;
-pub use lasts::{prev, rfind};
 pub use many::load_many;
-pub use neighbours::{Moved, next};
+pub use neighbours::Moved;
 pub use queries::{find, load, load_range};
 pub use sections::Section;
+pub use ways::{Way, near};

@@ -1,21 +1,17 @@
 //! Reads whose answer may lie in a neighbouring leaf.
 
-ghost use Rattle.std.specs.Prelude.{◌≡◌, ◌≢◌, ℕ, ◌+◌, ◌<◌, ◌≤◌, Some, None, IfSome, IfNone, IfOk, IfErr, length};
+ghost use Rattle.std.specs.Prelude.{◌≡◌, ◌≢◌, ◌+◌, ◌<◌, ◌≤◌, Some, None, IfSome, IfNone, length};
 ghost use Rattle.mt_base.specs.Width.{greatest_of};
 ghost use Rattle.mt_base.specs.declared.calls.Query.TheVariants.{Find, Next};
-ghost use Rattle.mt_base.specs.Passes as known;
 ghost use Rattle.mt_rule.specs.Sections.{here};
-ghost use Rattle.mt_rule.specs.Tokens.{identity_of, part_of, pass_in, tree_in, IsPassOf, Stepped, IsCounted};
+ghost use Rattle.mt_rule.specs.Tokens.{identity_of, part_of, IsPassOf, Stepped, IsCounted};
 ghost use Rattle.mt_read.specs.Answers.{Answers, AnswersBy};
-ghost use Rattle.mt_read.specs.Neighbours.{IsBehind, LeftMarked, MarkedBeside, WasLeftMarked, WasMoved, asked};
+ghost use Rattle.mt_read.specs.Neighbours.{IsBehind, LeftMarked, MarkedBeside, asked};
 ghost use Rattle.mt_read.specs.Walks.{GoesOn, IsOnLeaf};
-ghost use Rattle.mt_read.specs.Windows.{HasRead};
 
-use crate::bounds::within;
 use crate::descent::{Row, find_slot, sought, walk};
 use crate::reads::{first_at, next_place, range_at};
-use crate::sections::Section;
-use mt_base::{Range, Read, Steps, top};
+use mt_base::{Range, Steps, top};
 use mt_layout::is_dead_mark;
 use mt_rule::{MtTable, Pass};
 use std::sync::ledger::Ledger;
@@ -99,7 +95,7 @@ fn next_at_leaf<L: Ledger>(
 
 /// The first range that begins after an index, by a walk from the root. There is no answer if the leaf that covers the index is
 /// found marked after the next leaf was read.
-fn next_from<L: Ledger>(
+pub fn next_from<L: Ledger>(
     table: &MtTable,
     pass: &mut Pass,
     index: u64,
@@ -120,41 +116,4 @@ fn next_from<L: Ledger>(
         return Some(None);
     };
     next_at_leaf(table, pass, &leaf, to, steps)
-}
-
-/// The first range that begins after an index, and at `max` or below.
-///
-/// # Errors
-///
-/// `Moved` where the leaf of the index has no answer, and was found marked as dead after the leaf beside it was read: more than
-/// `lo` calls have begun.
-pub fn next<L: Ledger>(
-    table: &MtTable,
-    pass: &mut Pass,
-    index: u64,
-    max: u64,
-    steps: &mut Steps<L>,
-) -> Result<Read<Option<Range>>, Moved>
-    requires pass { IsPassOf (identity_of table.now) pass.old }
-    ensures stepped { Stepped (identity_of table.now) pass.old pass.new }
-    ensures read { IfOk result (λ answer. (k : ℕ)
-        × known.Read (tree_in (identity_of table.now)) (pass_in pass.old) answer.lo answer.hi k (Next index max) answer.value (pass_in pass.new)) }
-    ensures section { IfOk result (λ answer. HasRead answer.lo answer.hi (pass_in pass.old) (pass_in pass.new)) }
-    ensures moved { IfErr result (λ moved. WasMoved (tree_in (identity_of table.now)) (pass_in pass.old) moved.lo moved.begun (pass_in pass.new)) }
-    ensures given_up { IfErr result (λ moved. HasRead moved.lo moved.begun (pass_in pass.old) (pass_in pass.new)) }
-    ensures left { IfErr result
-        (λ moved. WasLeftMarked (Next index (greatest_of (part_of pass.old).shape.kind)) moved.lo moved.begun (part_of pass.old) (part_of pass.new)) }
-    ensures counted { IsCounted pass.old pass.new steps.old steps.new }
-    ensures steps { steps.new ≤ steps.old + 360 }
-{
-    let section = Section::begin(table, pass, steps);
-    let lo = section.epoch();
-    let found = next_from(table, pass, index, steps);
-    let begun = section.end(table, pass, steps);
-    let range = found.ok_or(Moved { lo, begun })?;
-    Ok(Read {
-        lo,
-        hi: begun,
-        value: within(range, 0, max),
-    })
 }
