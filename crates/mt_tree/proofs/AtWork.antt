@@ -1,5 +1,5 @@
 -- A call at work: the rows that it begins with, and what they tell.
-use Rattle.mt_tree.proofs.Prelude.{◌≡◌, ℕ, ◌≤◌, ◌<◌, ◌∷◌, ◌++◌, [], Option, Some, None, length, refl, sym, ap, ◌∙◌, subst, arith, length-map, length-append, Badge, Call, Reply, History, last_map, with_records, Parts, sheet_told, shown_all, told_of, map_by, with_record, Rooted, Sheet, Told, Pass, PenPart, Shape, TurnView, record_of, records_of, Identity, pass_in, turn_seat, WasShown, Tools, Tree, Behind, behind_lock, parts_of, IsAtRest, IsPenAtRest, limit_of, opened, passes_of, place_of, IsPassOf, records_told, shown_pass, IsSeatOf, IsWorker, AtWork, most_calls}
+use Rattle.mt_tree.proofs.Prelude.{◌≡◌, ℕ, ◌≤◌, ◌<◌, ◌∷◌, ◌++◌, [], Option, Some, None, length, refl, sym, ap, ◌∙◌, subst, arith, length-map, length-append, Badge, Call, Reply, History, last_map, with_records, Parts, sheet_told, shown_all, told_of, map_by, with_record, Rooted, Sheet, Told, Pass, PenPart, Shape, TurnView, Width, record_of, records_of, Identity, pass_in, turn_seat, WasShown, Tools, Tree, Behind, behind_lock, parts_of, IsAtRest, IsPenAtRest, limit_of, opened, passes_of, place_of, IsPassOf, records_told, shown_pass, IsSeatOf, IsWorker, AtWork, most_calls}
 use Rattle.mt_base.specs.Passes as known
 use Rattle.mt_tree.proofs.Reading.{map_is}
 
@@ -19,10 +19,10 @@ pub same_shape : (tools : Option Tools) → (behind_lock tools).pen.shape ≡ (b
 same_shape None = refl
 same_shape (Some t) = refl
 
-pub at_work : (t : Tree) (tools : Option Tools) (pass : Pass) (i : Identity) (turn : Badge TurnView) (e : Parts) → IsWorker t tools pass i turn
+pub at_work : (t : Tree) (tools : Option Tools) (pass : Pass) (i : Identity) (turn : Badge TurnView) (steps : ℕ) (wide : Width) (e : Parts) → IsWorker t tools pass i turn steps wide
     → e.kind ≡ (behind_lock tools).parts.kind → e.book ≡ (behind_lock tools).parts.book → e.sheet ≡ sheet_told i (behind_lock tools).pen (shown_pass (behind_lock tools).pen (pass_in pass))
     → WasShown (opened t) (behind_lock tools).pen (pass_in pass) (shown_pass (behind_lock tools).pen (pass_in pass)) → AtWork t i (behind_lock tools) (pass_in pass) e
-at_work t tools pass i turn e worker kind book sheet shown =
+at_work t tools pass i turn steps wide e worker kind book sheet shown =
     let rest = at_rest tools worker.rest in
     record {
       place = worker.table_is;

@@ -1,10 +1,9 @@
 -- A call at work was made by its pass, and the rows that a read saw lie behind the lock again.
-use Rattle.mt_tree.proofs.Prelude.{◌≡◌, ◌≢◌, ℕ, ◌+◌, ◌/◌, ◌≤◌, ◌<◌, ◌∷◌, ◌++◌, List, [], Bool, true, false, Option, Some, None, length, refl, sym, ap, ◌∙◌, subst, inl, inr, arith, ◌↔◌, IfErr, IfSome, IsOk, Result, Ok, Err, if◌then◌else◌, append-nil, length-map, length-append, Call, StorePre, Query, Kind, Range, Holder, Reply, Shortage, acted, answer, is_invalid, replied, Record, first_met, over, IsShort, Saw, Read, Wrote, places, holder_of, saw_wrote, still_short, Parts, DidOrLacked, IsEnded, TellsBook, is_refusal, HasRoom, IsScanned, IsShortOf, Book, after_reclaim, unscanned, map_by, IsRealShortage, OnlyReads, Rooted, Sheet, Pass, Shape, record_of, records_of, pen_sheet, Identity, pass_in, places_last, Tools, Tree, Behind, behind_lock, IsOnlyRead, IsReady, IsStoreReply, IsLeastBy, map_seen, opened, passes_of, place_of, IsShortNow, NamesPass, WasPrepared, pass_of_told, shown_pass, AreBack, AtWork}
+use Rattle.mt_tree.proofs.Prelude.{◌≡◌, ◌≢◌, ℕ, ◌+◌, ◌/◌, ◌≤◌, ◌<◌, ◌∷◌, ◌++◌, List, [], Bool, true, false, Option, Some, None, length, refl, sym, ap, ◌∙◌, subst, inl, inr, arith, ◌↔◌, IfErr, IfSome, IsOk, Result, Ok, Err, if◌then◌else◌, append-nil, length-map, length-append, Call, StorePre, Kind, Range, Holder, Reply, Shortage, acted, answer, is_invalid, replied, Record, first_met, over, IsShort, Saw, Wrote, places, holder_of, saw_wrote, still_short, Parts, DidOrLacked, IsEnded, TellsBook, is_refusal, HasRoom, IsScanned, IsShortOf, Book, after_reclaim, unscanned, map_by, IsRealShortage, OnlyReads, Rooted, Sheet, Pass, Shape, record_of, records_of, pen_sheet, Identity, pass_in, places_last, Tools, Tree, Behind, behind_lock, IsOnlyRead, IsReady, IsStoreReply, IsLeastBy, map_seen, opened, passes_of, IsShortNow, NamesPass, WasPrepared, pass_of_told, shown_pass, AreBack, AtWork}
 use Rattle.mt_base.specs.declared.replies.Reply.TheVariants as replies
 use Rattle.mt_base.specs.Passes as known
 use Rattle.mt_tree.proofs.AtWork.{at_rest, count_is, passes_is, told_at, told_is, told_after, told_more, tree_is, map_shown, shape_is, same_parts, same_shape}
 use Rattle.mt_tree.proofs.NoShortage.{applied_among, applied_other, made_named, named_if, scan_among, scan_other, IsAmong, IsOther}
-use Rattle.mt_tree.proofs.Reading.{asked}
 
 -- a shortage is that of the rows without scans, of no caller
 pub counted_at : (s : Sheet) (shortage : Shortage) → IsRealShortage s shortage → IsRealShortage (record (unscanned s) { told = None; scan = s.scan }) shortage
@@ -111,12 +110,6 @@ module _ (t : Tree) (i : Identity) (b : Behind) (p : known.Pass) (e e' : Parts) 
 
     pub map_still : map_by e.sheet.tree ≡ map_seen t q
     map_still = map_shown t i b p e w ∙ ap (λ (x : known.Pass). map_seen t x) (sym pass_is)
-
-    pub answered : (query : Query) (value : Option Range) → value ≡ answer (map_by e.sheet.tree) query → Read (opened t) p (length b.pen.history) (length b.pen.history) (length b.pen.history) query value q
-    answered query value is =
-        subst (Read (opened t) p (length b.pen.history) (length b.pen.history) (length b.pen.history) query value) (sym pass_is)
-        (asked (place_of t) b.pen b.parts p (shown_pass b.pen p) (length b.pen.history) query value w.shown (shape_is t i b p e w) w.kept.of refl
-        (is ∙ ap (λ (x : Rooted). answer (map_by x) query) (tree_is t i b p e w)))
 
   -- the words were only read
   module _ (reads : OnlyReads e.sheet e'.sheet) (book : e'.book ≡ e.book) (kind : e'.kind ≡ e.kind) where

@@ -3,21 +3,25 @@
 use Rattle.std.specs.Prelude.{◌≡◌, ℕ, ◌≤◌, ◌<◌, Option, Some, None, List, [], ◌∷◌, length}
 use Rattle.std.specs.List.{AllByRecursion}
 use Rattle.atomic_table.specs.declared.badge.Badge.{Badge}
-use Rattle.mt_tree.specs.Prelude.{Record, Parts, unscanned, Told, Pass, PenPart, TurnView, IsScanOf, records_of, Identity, WasShown, pass_in, turn_seat, seated, tries_in, sheet_told}
+use Rattle.mt_tree.specs.Prelude.{Record, Parts, unscanned, Told, Pass, PenPart, TurnView, IsScanOf, kind_width, records_of, Identity, WasShown, pass_in, turn_seat, seated, tries_in, sheet_told}
 use Rattle.mt_base.specs.Passes as known
+use Rattle.mt_base.specs.declared.widths.Width.{Width}
 use Rattle.mt_tree.specs.declared.behind.Tools.{Tools}
 use Rattle.mt_tree.specs.declared.trees.Tree.{Tree}
 use Rattle.mt_tree.specs.Behind.{Behind, behind_lock, parts_of, IsAtRest, IsOnlyRead, IsPenAtRest}
 use Rattle.mt_tree.specs.Copies.{AreWordsOf}
-use Rattle.mt_tree.specs.Trees.{map_seen, opened, passes_of, place_of, IsPassOf, Rests}
+use Rattle.mt_tree.specs.Trees.{map_seen, opened, passes_of, place_of, steps_made, IsPassOf, Rests}
 
--- The tools are those that the tree's lock protects, and the handle, one of the tree's, is the one that works with them.
-pub record IsWorker (t : Tree) (tools : Option Tools) (p : Pass) (table : Identity) (turn : Badge TurnView) : Type 0 where
+-- The tools are those that the tree's lock protects, and the handle, one of the tree's, is the one that works with them. It has made
+-- this many steps without the lock. The table's words are this wide.
+pub record IsWorker (t : Tree) (tools : Option Tools) (p : Pass) (table : Identity) (turn : Badge TurnView) (steps : ℕ) (wide : Width) : Type 0 where
   pub rest : IsAtRest tools
   pub of : (behind_lock tools).table ≡ place_of t
   pub pass : IsPassOf t p
   pub table_is : table ≡ place_of t
   pub turn_is : turn ≡ turn_seat p
+  pub counted : steps ≡ steps_made p
+  pub wide_is : wide ≡ kind_width table.shape.kind
 
 -- a seat (token) at the tree's turn (writer lock)
 pub record IsSeatOf (t : Tree) (turn : Badge TurnView) : Type 0 where

@@ -9,17 +9,17 @@ ghost use Rattle.mt_engine.specs.Engine.{is_refusal};
 ghost use Rattle.mt_rule.specs.Seats.{records_of};
 ghost use Rattle.mt_rule.specs.Tokens.{pass_in, WasShown};
 ghost use Rattle.mt_tree.specs.Behind.{after_show, IsReady, IsStoreReply};
-ghost use Rattle.mt_tree.specs.Trees.{opened, limit_of, map_seen, passes_of, place_of, Acts, IsPassOf, IsShortNow};
+ghost use Rattle.mt_tree.specs.Trees.{opened, limit_of, passes_of, place_of, Acts, IsPassOf, IsShortNow};
 ghost use Rattle.mt_tree.specs.Trees.{IsWorn, NamesPass, Rests, WasAnsweredBy, WasPrepared};
 ghost use Rattle.mt_tree.specs.Works.{LookedBehind};
 
 use crate::counts::counted;
+use crate::inspects::AnswerOf;
 use crate::trees::Tree;
-use crate::works::{act, ask, by_width, list, preallocate, store_prealloc};
-use mt_base::{Call, Done, NoMemory, Query, Range, Read, Shortage, Width, Worn};
+use crate::works::{act, by_width, preallocate, store_prealloc};
+use mt_base::{Call, Done, Query, Range, Read, Shortage, Width, Worn};
 use mt_free::RowBook;
 use mt_rule::{LongRows, OfTable, Pass, Pen, ShortRows};
-use std::alloc::Global;
 use std::marker::{Brand, Model};
 use std::mem;
 
@@ -168,7 +168,7 @@ impl WriterState {
     }
 
     /// Answers one query.
-    #[tactic(auto, using(crate::proofs::Keeping::counted_looked))]
+    #[tactic(auto, using(crate::proofs::Reading::asked))]
     pub(crate) fn ask(&mut self, tree: &Tree, pass: &mut Pass, query: &Query) -> Read<Option<Range>>
         requires table { self.old.table ≡ place_of tree.now }
         requires pass { IsPassOf tree.now pass.old }
@@ -177,10 +177,11 @@ impl WriterState {
         ensures read { known.Read (opened tree.now) (pass_in pass.old) result.lo result.hi result.lo query.now result.value (pass_in pass.new) }
     {
         let calls = self.calls();
+        let value = self.inspect(tree, pass, AnswerOf { query });
         Read {
             lo: calls,
             hi: calls,
-            value: by_width!(tree, ask(&mut self.tools, tree, pass, query)),
+            value,
         }
     }
 
@@ -198,22 +199,6 @@ impl WriterState {
         ensures short { IfErr result (λ shortage. IsShortNow tree.now (pass_in pass.new) self.old self.new shortage) }
     {
         by_width!(tree, preallocate(&mut self.tools, tree, pass))
-    }
-
-    /// Copies the ranges out.
-    #[tactic(auto, using(crate::proofs::Keeping::counted_looked))]
-    pub(crate) fn list(
-        &mut self,
-        tree: &Tree,
-        pass: &mut Pass,
-        alloc: Global,
-    ) -> Result<Vec<Range>, NoMemory>
-        requires table { self.old.table ≡ place_of tree.now }
-        requires pass { IsPassOf tree.now pass.old }
-        ensures looked { LookedBehind tree.now self.old self.new pass.old pass.new }
-        ensures items { IfOk result (λ ranges. ranges.items ≡ map_seen tree.now (pass_in pass.new)) }
-    {
-        by_width!(tree, list(&mut self.tools, tree, pass, alloc))
     }
 
     /// Whether a store may be made for which nodes were found free.

@@ -16,27 +16,26 @@ ghost use Rattle.mt_check.specs.Check.{form_of};
 ghost use Rattle.mt_rule.specs.Tokens.{pass_in};
 ghost use Rattle.mt_tree.specs.declared.shapes.Field.{Field};
 ghost use Rattle.mt_base.specs.Blanks.{IsBlankOf};
-ghost use Rattle.mt_tree.specs.Behind.{behind_lock, IsAtRest, IsOnlyRead};
+ghost use Rattle.mt_tree.specs.Behind.{IsOnlyRead};
 ghost use Rattle.mt_tree.specs.Copies.{live_rows, IsForRoom, IsLiveCounted, IsReadyToOpen, IsRefusal};
 ghost use Rattle.mt_tree.specs.Looks.{looked_words, IsCopyLooked, IsFormBehind, IsLookAt};
 ghost use Rattle.mt_tree.specs.Shapes.{first_bad};
-ghost use Rattle.mt_tree.specs.Trees.{opened, map_seen, place_of, IsPassOf, IsNew, IsOpen, Rests, TriesOnce, steps_made};
-ghost use Rattle.mt_tree.specs.Works.{IsWorker, LookedBehind, LookedUnder};
+ghost use Rattle.mt_tree.specs.Trees.{opened, map_seen, IsPassOf, IsNew, Rests, TriesOnce};
+ghost use Rattle.mt_tree.specs.Works.{LookedUnder};
 
-use crate::behind::{Tools, WriterState};
+use crate::behind::WriterState;
+use crate::inspects::Inspect;
 use crate::locked::Locked;
 use crate::receipts::Look;
 use crate::shapes::{DupError, Shape};
 use crate::trees::Tree;
-use crate::works::{begin, by_width, end};
-use mt_base::{Kind, NoMemory, Steps, Width};
+use mt_base::{Kind, NoMemory, Steps};
 use mt_check::{Form, form_of};
 use mt_dup::copy_rows;
 use mt_engine::Engine;
 use mt_free::RowBook;
-use mt_pen::Writer;
 use mt_rows::{PlainRows, Rows};
-use mt_rule::{LongRows, OfWidth, Pass, ShortRows, Taken};
+use mt_rule::{Pass, Taken};
 use std::alloc::Global;
 use std::marker::Brand;
 use std::sync::Wait;
@@ -78,88 +77,63 @@ fn copy_out<R: Rows>(src: &mut R, live: u64, dst: &mut PlainRows, book: &mut Row
     }
 }
 
-/// The form of an engine's words, which are only read.
-#[tactic(auto, using(crate::proofs::Forms::lawful_as, crate::proofs::Forms::idle_as, crate::proofs::Forms::high_as))]
-fn form_in<R: Rows>(engine: Engine<R>, kind: Kind) -> (Engine<R>, Form)
-    requires { kind ≡ engine.kind }
-    ensures rest { OnlyReads engine.sheet result.0.sheet }
-    ensures book { result.0.book ≡ engine.book }
-    ensures kind { result.0.kind ≡ engine.kind }
-    ensures form { result.1 ≡ form_of (tree_as kind engine.sheet.tree) }
-{
-    let height = engine.height();
-    let (mut rows, book) = engine.parts();
-    let form = form_of(&mut rows, kind);
-    (Engine::of_height(rows, book, kind, height), form)
+/// The form of a tree's words.
+#[derive(Clone, Copy)]
+pub(crate) struct FormOf;
+
+impl Inspect for FormOf {
+    type Found = Form;
+
+    ghost may = { λ _ _ _. Unit {0} };
+
+    ghost finds = { λ _ kind words form. form ≡ form_of (tree_as kind words) };
+
+    #[tactic(auto, using(crate::proofs::Forms::lawful_as, crate::proofs::Forms::idle_as, crate::proofs::Forms::high_as))]
+    fn inspect<R: Rows>(self, engine: Engine<R>, kind: Kind) -> (Engine<R>, Form) {
+        let height = engine.height();
+        let (mut rows, book) = engine.parts();
+        let form = form_of(&mut rows, kind);
+        (Engine::of_height(rows, book, kind, height), form)
+    }
 }
 
-/// Copies an engine's tree, which is only read, into new nodes, where they are as many as it has in use. Answers how many it
-/// has.
-#[tactic(auto, using(crate::proofs::Forms::lawful_as, crate::proofs::Forms::idle_as, crate::proofs::Forms::high_as))]
-fn copied_out<R: Rows>(
-    engine: Engine<R>,
-    kind: Kind,
-    dst: &mut PlainRows,
-    own: &mut RowBook,
-) -> (Engine<R>, u64)
-    requires kind { kind ≡ engine.kind }
-    requires rows { sheet_in dst.old ≡ new_sheet (kind_width kind) own.old.rows }
-    requires book { own.old ≡ new_book own.old.rows }
-    ensures rest { OnlyReads engine.sheet result.0.sheet }
-    ensures book { result.0.book ≡ engine.book }
-    ensures kind { result.0.kind ≡ engine.kind }
-    ensures live { result.1 ≡ live_rows engine.sheet.tree }
-    ensures copy { result.1 ≤ own.old.rows → IsReadyToOpen kind own.old.rows (map_by engine.sheet.tree) (sheet_in dst.new) own.new }
-{
-    let height = engine.height();
-    let (mut rows, book) = engine.parts();
-    let live = book.live();
-    copy_out(&mut rows, live, dst, own);
-    (Engine::of_height(rows, book, kind, height), live)
+/// New nodes, and their book, for a copy of a tree.
+#[derive(Drop)]
+pub(crate) struct CopyInto {
+    pub(crate) dst: PlainRows,
+    pub(crate) own: RowBook,
 }
 
-/// The form of the tree's words.
-fn check_at_work<W: Writer, K: OfWidth>(
-    tools: &mut Option<Tools>,
-    tree: &Tree,
-    pass: &mut Pass,
-) -> Form
-    requires worker { IsWorker tree.now tools.old pass.old W.table W.turn }
-    requires counted { W.steps ≡ steps_made pass.old }
-    requires wide { K.wide ≡ kind_width W.table.shape.kind }
-    ensures rest { IsAtRest tools.new }
-    ensures looked { LookedBehind tree.now (behind_lock tools.old) (behind_lock tools.new) pass.old pass.new }
-    ensures form { result ≡ form_of (tree_as (opened tree.now).kind (behind_lock tools.old).parts.sheet.tree) }
-{
-    let engine = begin::<W, K>(tools, tree, pass);
-    let (engine, form) = form_in(engine, tree.shape.kind);
-    end(tools, tree, engine, pass);
-    form
+/// Nodes with the copy of a tree, if they are as many as it has in use, and how many it has.
+#[derive(Drop)]
+pub(crate) struct Copied {
+    pub(crate) live: u64,
+    pub(crate) rows: PlainRows,
+    pub(crate) book: RowBook,
 }
 
-/// Copies the tree into new nodes, where they are as many as it has in use. Answers how many it has.
-fn copy_at_work<W: Writer, K: OfWidth>(
-    tools: &mut Option<Tools>,
-    tree: &Tree,
-    pass: &mut Pass,
-    dst: &mut PlainRows,
-    own: &mut RowBook,
-) -> u64
-    requires worker { IsWorker tree.now tools.old pass.old W.table W.turn }
-    requires counted { W.steps ≡ steps_made pass.old }
-    requires wide { K.wide ≡ kind_width W.table.shape.kind }
-    requires rows { sheet_in dst.old ≡ new_sheet (kind_width (opened tree.now).kind) own.old.rows }
-    requires book { own.old ≡ new_book own.old.rows }
-    ensures rest { IsAtRest tools.new }
-    ensures looked { LookedBehind tree.now (behind_lock tools.old) (behind_lock tools.new) pass.old pass.new }
-    ensures live { result ≡ live_rows (behind_lock tools.old).parts.sheet.tree }
-    ensures copy { result ≤ own.old.rows
-        → IsReadyToOpen (opened tree.now).kind own.old.rows (map_seen tree.now (pass_in pass.new)) (sheet_in dst.new) own.new }
-{
-    let engine = begin::<W, K>(tools, tree, pass);
-    let (engine, live) = copied_out(engine, tree.shape.kind, dst, own);
-    end(tools, tree, engine, pass);
-    live
+impl Inspect for CopyInto {
+    type Found = Copied;
+
+    ghost may = { λ c kind _. (sheet_in c.dst ≡ new_sheet (kind_width kind) c.own.rows) × (c.own ≡ new_book c.own.rows) };
+
+    ghost finds = { λ c kind words made. (made.live ≡ live_rows words)
+        × (made.live ≤ c.own.rows → IsReadyToOpen kind c.own.rows (map_by words) (sheet_in made.rows) made.book) };
+
+    #[tactic(auto, using(crate::proofs::Forms::lawful_as, crate::proofs::Forms::idle_as, crate::proofs::Forms::high_as))]
+    fn inspect<R: Rows>(self, engine: Engine<R>, kind: Kind) -> (Engine<R>, Copied) {
+        let CopyInto { mut dst, mut own } = self;
+        let height = engine.height();
+        let (mut rows, book) = engine.parts();
+        let live = book.live();
+        copy_out(&mut rows, live, &mut dst, &mut own);
+        let copied = Copied {
+            live,
+            rows: dst,
+            book: own,
+        };
+        (Engine::of_height(rows, book, kind, height), copied)
+    }
 }
 
 /// Why there is no copy of this shape of a tree of this kind, whatever its nodes.
@@ -237,95 +211,35 @@ fn copied_of(
     open_copy(alloc, shape, live, copy, book)
 }
 
-impl WriterState {
-    /// The form of the tree's words.
-    #[tactic(auto, using(crate::proofs::Keeping::counted_looked))]
-    pub(crate) fn check(&mut self, tree: &Tree, pass: &mut Pass) -> Form
-        requires table { self.old.table ≡ place_of tree.now }
-        requires pass { IsPassOf tree.now pass.old }
-        ensures looked { LookedBehind tree.now self.old self.new pass.old pass.new }
-        ensures form { result ≡ form_of (tree_as (opened tree.now).kind self.old.parts.sheet.tree) }
-    {
-        by_width!(tree, check_at_work(&mut self.tools, tree, pass))
-    }
-
-    /// Copies the tree into new nodes, where they are as many as it has in use. Answers how many it has.
-    #[tactic(auto, using(crate::proofs::Keeping::counted_looked))]
-    pub(crate) fn copy(
-        &mut self,
-        tree: &Tree,
-        pass: &mut Pass,
-        dst: &mut PlainRows,
-        own: &mut RowBook,
-    ) -> u64
-        requires table { self.old.table ≡ place_of tree.now }
-        requires pass { IsPassOf tree.now pass.old }
-        requires rows { sheet_in dst.old ≡ new_sheet (kind_width (opened tree.now).kind) own.old.rows }
-        requires book { own.old ≡ new_book own.old.rows }
-        ensures looked { LookedBehind tree.now self.old self.new pass.old pass.new }
-        ensures live { result ≡ live_rows self.old.parts.sheet.tree }
-        ensures copy { result ≤ own.old.rows
-            → IsReadyToOpen (opened tree.now).kind own.old.rows (map_seen tree.now (pass_in pass.new)) (sheet_in dst.new) own.new }
-    {
-        by_width!(tree, copy_at_work(&mut self.tools, tree, pass, dst, own))
-    }
-}
-
-/// The form of the words of a locked tree.
-#[tactic(auto, using(crate::proofs::Lending::looked_under))]
-fn check_under(taken: &mut Taken<WriterState>, tree: &Tree, pass: &mut Pass) -> Form
-    requires { IsOpen tree.now pass.old taken.old.value taken.old.seat }
-    ensures open { IsOpen tree.now pass.new taken.new.value taken.new.seat }
-    ensures looked { LookedUnder tree.now taken.old.value taken.new.value pass.old pass.new }
-    ensures form { result ≡ form_of (tree_as (opened tree.now).kind taken.old.value.parts.sheet.tree) }
-{
-    taken.value.check(tree, pass)
-}
-
-/// Copies a locked tree into new nodes, where they are as many as it has in use. Answers how many it has.
-#[tactic(auto, using(crate::proofs::Lending::looked_under))]
-fn copy_under(
-    taken: &mut Taken<WriterState>,
-    tree: &Tree,
-    pass: &mut Pass,
-    dst: &mut PlainRows,
-    own: &mut RowBook,
-) -> u64
-    requires open { IsOpen tree.now pass.old taken.old.value taken.old.seat }
-    requires rows { sheet_in dst.old ≡ new_sheet (kind_width (opened tree.now).kind) own.old.rows }
-    requires book { own.old ≡ new_book own.old.rows }
-    ensures open { IsOpen tree.now pass.new taken.new.value taken.new.seat }
-    ensures looked { LookedUnder tree.now taken.old.value taken.new.value pass.old pass.new }
-    ensures live { result ≡ live_rows taken.old.value.parts.sheet.tree }
-    ensures copy { result ≤ own.old.rows
-        → IsReadyToOpen (opened tree.now).kind own.old.rows (map_seen tree.now (pass_in pass.new)) (sheet_in dst.new) own.new }
-{
-    taken.value.copy(tree, pass, dst, own)
-}
-
 impl<'a> Locked<'a, Taken<WriterState>> {
     /// The form of the tree's words: those that the lock protects, which represent the map after all calls.
+    #[tactic(auto, using(crate::proofs::Lending::looked_under))]
     pub fn check(&mut self) -> Form
         ensures same_reference { self.new.pass.ghost_name ≡ self.old.pass.ghost_name }
         ensures tree { self.new.tree ≡ self.old.tree }
         ensures looked { LookedUnder self.old.tree.now self.old.taken.value self.new.taken.value self.old.pass.now self.new.pass.now }
         ensures form { result ≡ form_of (tree_as (opened self.old.tree.now).kind self.old.taken.value.parts.sheet.tree) }
     {
-        check_under(&mut self.taken, self.tree, self.pass)
+        let taken = &mut self.taken;
+        taken.value.inspect(self.tree, self.pass, FormOf)
     }
 
     /// Copies the words into new nodes, where they are as many as the tree has in use. Answers how many it has.
-    fn copy(&mut self, dst: &mut PlainRows, own: &mut RowBook) -> u64
-        requires rows { sheet_in dst.old ≡ new_sheet (kind_width (opened self.old.tree.now).kind) own.old.rows }
-        requires book { own.old ≡ new_book own.old.rows }
+    #[tactic(auto, using(crate::proofs::Lending::looked_under))]
+    fn copy(&mut self, dst: PlainRows, own: RowBook) -> Copied
+        requires rows { sheet_in dst ≡ new_sheet (kind_width (opened self.old.tree.now).kind) own.rows }
+        requires book { own ≡ new_book own.rows }
         ensures same_reference { self.new.pass.ghost_name ≡ self.old.pass.ghost_name }
         ensures tree { self.new.tree ≡ self.old.tree }
         ensures looked { LookedUnder self.old.tree.now self.old.taken.value self.new.taken.value self.old.pass.now self.new.pass.now }
-        ensures live { result ≡ live_rows self.old.taken.value.parts.sheet.tree }
-        ensures copy { result ≤ own.old.rows
-            → IsReadyToOpen (opened self.old.tree.now).kind own.old.rows (map_seen self.old.tree.now (pass_in self.old.pass.now)) (sheet_in dst.new) own.new }
+        ensures live { result.live ≡ live_rows self.old.taken.value.parts.sheet.tree }
+        ensures copy { result.live ≤ own.rows → IsReadyToOpen (opened self.old.tree.now).kind
+            own.rows (map_seen self.old.tree.now (pass_in self.old.pass.now)) (sheet_in result.rows) result.book }
     {
-        copy_under(&mut self.taken, self.tree, self.pass, dst, own)
+        let taken = &mut self.taken;
+        taken
+            .value
+            .inspect(self.tree, self.pass, CopyInto { dst, own })
     }
 
     /// As `dup`, where this shape is in range and of the tree's kind: a tree that opens with the copy.
@@ -342,10 +256,10 @@ impl<'a> Locked<'a, Taken<WriterState>> {
         ensures new { IfOk result (λ r. IsNew shape (map_seen self.old.tree.now (pass_in self.old.pass.now)) r.0 r.1.items) }
         ensures room { IfErr result IsForRoom }
     {
-        let Ok((mut rows, mut book)) = room(alloc, &shape) else {
+        let Ok((dst, own)) = room(alloc, &shape) else {
             return Err(DupError::NoMemory);
         };
-        let live = self.copy(&mut rows, &mut book);
+        let Copied { live, rows, book } = self.copy(dst, own);
         open_copy(alloc, shape, live, rows, book)
     }
 
@@ -387,7 +301,7 @@ impl Tree {
     {
         let mut taken = self.take(rt, pass);
         let took = taken.value.snapshot(self);
-        let form = taken.value.check(self, pass);
+        let form = taken.value.inspect(self, pass, FormOf);
         (form, self.give_looked(taken, took))
     }
 
@@ -396,24 +310,24 @@ impl Tree {
         &self,
         rt: &impl Wait,
         pass: &mut Pass,
-        dst: &mut PlainRows,
-        book: &mut RowBook,
-    ) -> (u64, Look)
+        dst: PlainRows,
+        own: RowBook,
+    ) -> (Copied, Look)
         requires pass { IsPassOf self.now pass.old }
-        requires rows { sheet_in dst.old ≡ new_sheet (kind_width (opened self.now).kind) book.old.rows }
-        requires book { book.old ≡ new_book book.old.rows }
+        requires rows { sheet_in dst ≡ new_sheet (kind_width (opened self.now).kind) own.rows }
+        requires book { own ≡ new_book own.rows }
         ensures of { IsPassOf self.now pass.new }
         ensures tries { TriesOnce pass.old pass.new }
         ensures saw { Saw (opened self.now) (pass_in pass.old) (pass_in pass.new) }
         ensures look { IsLookAt self.now (pass_in pass.new) result.1 }
-        ensures live { result.0 ≡ live_rows (looked_words result.1) }
-        ensures copy { result.0 ≤ book.old.rows
-            → IsReadyToOpen (opened self.now).kind book.old.rows (map_seen self.now (pass_in pass.new)) (sheet_in dst.new) book.new }
+        ensures live { result.0.live ≡ live_rows (looked_words result.1) }
+        ensures copy { result.0.live ≤ own.rows
+            → IsReadyToOpen (opened self.now).kind own.rows (map_seen self.now (pass_in pass.new)) (sheet_in result.0.rows) result.0.book }
     {
         let mut taken = self.take(rt, pass);
         let took = taken.value.snapshot(self);
-        let live = taken.value.copy(self, pass, dst, book);
-        (live, self.give_looked(taken, took))
+        let copied = taken.value.inspect(self, pass, CopyInto { dst, own });
+        (copied, self.give_looked(taken, took))
     }
 
     /// As `dup`, where this shape is in range and of the tree's kind: a tree that opens with the copy.
@@ -432,10 +346,10 @@ impl Tree {
         ensures new { IfOk result.0 (λ made. IsNew shape (map_seen self.now (pass_in pass.new)) made.0 made.1.items) }
         ensures room { IfErr result.0 IsForRoom }
     {
-        let Ok((mut rows, mut book)) = room(alloc, &shape) else {
+        let Ok((dst, own)) = room(alloc, &shape) else {
             return (Err(DupError::NoMemory), None);
         };
-        let (live, look) = self.copy_rows(rt, pass, &mut rows, &mut book);
+        let (Copied { live, rows, book }, look) = self.copy_rows(rt, pass, dst, own);
         (open_copy(alloc, shape, live, rows, book), Some(look))
     }
 

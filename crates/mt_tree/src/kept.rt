@@ -1,26 +1,27 @@
 //! Calls that keep the reserve of a tree, by a caller that does not wait.
 
-ghost use Rattle.std.specs.Prelude.{◌≡◌, IfErr, IfOk, IfSome};
-ghost use Rattle.mt_base.specs.Width.{kind_width};
+ghost use Rattle.std.specs.Prelude.{◌≡◌, IfErr, IfOk, IfSome, length};
+ghost use Rattle.mt_engine.specs.Engine.{Parts};
+ghost use Rattle.mt_rows.specs.Publish.{map_by};
 ghost use Rattle.mt_rule.specs.Tokens.{pass_in};
 ghost use Rattle.mt_rule.specs.Turns.{tried};
-ghost use Rattle.mt_tree.specs.Behind.{behind_lock, IsAtRest, IsCountBehind};
+ghost use Rattle.mt_tree.specs.Behind.{IsCountBehind};
 ghost use Rattle.mt_tree.specs.Kept.{MadeKept, WasKept};
-ghost use Rattle.mt_tree.specs.Reserve.{IsReserveVerdict, range_count};
-ghost use Rattle.mt_tree.specs.Trees.{place_of, IsPassOf, Rests, TriesOnce, steps_made};
+ghost use Rattle.mt_tree.specs.Reserve.{IsReserveVerdict};
+ghost use Rattle.mt_tree.specs.Trees.{place_of, IsPassOf, Rests, TriesOnce};
 ghost use Rattle.mt_tree.specs.Tries.{IsBusyOf};
-ghost use Rattle.mt_tree.specs.Works.{IsWorker, LookedBehind};
+ghost use Rattle.mt_tree.specs.Works.{LookedBehind};
 
-use crate::behind::{Tools, WriterState};
+use crate::behind::WriterState;
 use crate::counts::counted;
+use crate::inspects::Inspect;
 use crate::receipts::Look;
 use crate::reserve::{ReserveVerdict, verdict_of};
 use crate::trees::Tree;
-use crate::works::{begin, by_width, end};
-use mt_base::{Call, Done, Width, Worn};
-use mt_pen::Writer;
-use mt_rule::{Busy, LongRows, OfWidth, Pass, ShortRows};
-use std::marker::Brand;
+use mt_base::{Call, Done, Kind, Worn};
+use mt_engine::Engine;
+use mt_rows::Rows;
+use mt_rule::{Busy, Pass};
 
 /// What came of a call that keeps the reserve.
 #[derive(Debug, Drop)]
@@ -31,26 +32,24 @@ pub enum Kept {
     Broken,
 }
 
-/// The verdict on a call, by the nodes that the lock protects.
-fn verdict_at_work<W: Writer, K: OfWidth>(
-    tools: &mut Option<Tools>,
-    tree: &Tree,
-    pass: &mut Pass,
+/// The verdict on a call, where so much is known of the number of ranges.
+#[derive(Drop)]
+struct VerdictOn<'a> {
     known: Option<u64>,
-    call: &Call,
-) -> ReserveVerdict
-    requires worker { IsWorker tree.now tools.old pass.old W.table W.turn }
-    requires counted { W.steps ≡ steps_made pass.old }
-    requires wide { K.wide ≡ kind_width W.table.shape.kind }
-    requires known { IfSome known (λ n. n ≡ range_count (behind_lock tools.old).parts) }
-    ensures rest { IsAtRest tools.new }
-    ensures looked { LookedBehind tree.now (behind_lock tools.old) (behind_lock tools.new) pass.old pass.new }
-    ensures verdict { IsReserveVerdict (behind_lock tools.old).parts call.now result }
-{
-    let engine = begin::<W, K>(tools, tree, pass);
-    let (engine, verdict) = verdict_of(engine, tree.shape.kind, known, call);
-    end(tools, tree, engine, pass);
-    verdict
+    call: &'a Call,
+}
+
+impl<'a> Inspect for VerdictOn<'a> {
+    type Found = ReserveVerdict;
+
+    ghost may = { λ v _ words. IfSome v.known (λ n. n ≡ length (map_by words)) };
+
+    ghost finds = { λ v kind words verdict. (e : Parts) → e.kind ≡ kind → e.sheet.tree ≡ words → IsReserveVerdict e v.call.now verdict };
+
+    #[tactic(auto, using(crate::proofs::Reserving::verdict_as))]
+    fn inspect<R: Rows>(self, engine: Engine<R>, kind: Kind) -> (Engine<R>, ReserveVerdict) {
+        verdict_of(engine, kind, self.known, self.call)
+    }
 }
 
 impl WriterState {
@@ -71,10 +70,7 @@ impl WriterState {
         ensures verdict { IsReserveVerdict self.old.parts call.now result }
     {
         let known = self.ranges;
-        by_width!(
-            tree,
-            verdict_at_work(&mut self.tools, tree, pass, known, call)
-        )
+        self.inspect(tree, pass, VerdictOn { known, call })
     }
 
     /// As `judge`. What is found of the number of ranges is kept.

@@ -32,6 +32,7 @@ mod copies;
 mod counts;
 mod cursors;
 mod images;
+mod inspects;
 mod kept;
 pub mod laws;
 mod locked;

@@ -15,6 +15,7 @@ ghost use Rattle.mt_tree.specs.Trees.{IsWorn, NamesPass, Rests, TriesOnce, WasAn
 ghost use Rattle.mt_tree.specs.Works.{LookedUnder};
 
 use crate::behind::WriterState;
+use crate::inspects::RangesOf;
 use crate::trees::Tree;
 use mt_base::{Call, Done, NoMemory, Query, Range, Read, Shortage, Worn};
 use mt_rule::{Pass, Taken};
@@ -67,102 +68,11 @@ impl Tree {
     }
 }
 
-#[tactic(auto, using(crate::proofs::Lending::next_call, crate::proofs::Lending::none_since))]
-fn act_under(
-    taken: &mut Taken<WriterState>,
-    tree: &Tree,
-    pass: &mut Pass,
-    call: &Call,
-) -> Result<Done, Worn>
-    requires { IsOpen tree.now pass.old taken.old.value taken.old.seat }
-    ensures open { IsOpen tree.now pass.new taken.new.value taken.new.seat }
-    ensures rests { Rests pass.old pass.new }
-    ensures done { IfOk result (λ d. Wrote (opened tree.now) (pass_in pass.old) d.call call.now d.reply (pass_in pass.new) × (d.call ≤ limit_of tree.now)) }
-    ensures number { IfOk result (λ d. d.call ≡ length (pass_in pass.old).seen + 1) }
-    ensures callers { IfOk result (λ d. AllByRecursion (λ r. r.pass < passes_of tree.now) (pass_in pass.new).seen) }
-    ensures still { IfErr result (λ w. (pass_in pass.new).seen ≡ (pass_in pass.old).seen) }
-    ensures named { IfOk result (λ d. NamesPass tree.now d.reply) }
-    ensures worn { IfErr result (λ w. IsWorn tree.now (pass_in pass.old) w (pass_in pass.new) × (taken.new.value ≡ after_show taken.old.value)) }
-    ensures kept { IfOk result (λ d. is_refusal d.reply ≡ true → taken.new.value.parts.sheet.tree ≡ taken.old.value.parts.sheet.tree) }
-    ensures answered { IfOk result (λ d. WasAnsweredBy tree.now (pass_in pass.new) taken.old.value taken.new.value call.now d) }
-{
-    taken.value.act(tree, pass, call)
-}
-
-fn store_under(
-    taken: &mut Taken<WriterState>,
-    tree: &Tree,
-    pass: &mut Pass,
-    first: u64,
-    last: u64,
-    entry: u64,
-) -> Result<Done, Worn>
-    requires open { IsOpen tree.now pass.old taken.old.value taken.old.seat }
-    requires ready { IsReady taken.old.value.parts }
-    ensures open { IsOpen tree.now pass.new taken.new.value taken.new.seat }
-    ensures rests { Rests pass.old pass.new }
-    ensures done { IfOk result (λ d. Wrote (opened tree.now) (pass_in pass.old) d.call (StorePre first last entry) d.reply (pass_in pass.new)
-        × (d.call ≤ limit_of tree.now)) }
-    ensures named { IfOk result (λ d. NamesPass tree.now d.reply) }
-    ensures stored { IfOk result (λ d. IsStoreReply d.reply) }
-    ensures worn { IfErr result (λ w. IsWorn tree.now (pass_in pass.old) w (pass_in pass.new) × (taken.new.value ≡ after_show taken.old.value)) }
-    ensures kept { IfOk result (λ d. is_refusal d.reply ≡ true → taken.new.value.parts.sheet.tree ≡ taken.old.value.parts.sheet.tree) }
-    ensures unscanned { taken.new.value.pen.sections ≡ [] }
-{
-    taken.value.store_prealloc(tree, pass, first, last, entry)
-}
-
-#[tactic(auto, using(crate::proofs::Lending::looked_under))]
-fn ask_under(
-    taken: &mut Taken<WriterState>,
-    tree: &Tree,
-    pass: &mut Pass,
-    query: &Query,
-) -> Read<Option<Range>>
-    requires { IsOpen tree.now pass.old taken.old.value taken.old.seat }
-    ensures open { IsOpen tree.now pass.new taken.new.value taken.new.seat }
-    ensures looked { LookedUnder tree.now taken.old.value taken.new.value pass.old pass.new }
-    ensures window { (result.lo ≡ length (pass_in pass.old).seen) × (result.hi ≡ result.lo) }
-    ensures read { known.Read (opened tree.now) (pass_in pass.old) result.lo result.hi result.lo query.now result.value (pass_in pass.new) }
-{
-    taken.value.ask(tree, pass, query)
-}
-
-fn preallocate_under(
-    taken: &mut Taken<WriterState>,
-    tree: &Tree,
-    pass: &mut Pass,
-) -> Result<(), Shortage>
-    requires { IsOpen tree.now pass.old taken.old.value taken.old.seat }
-    ensures open { IsOpen tree.now pass.new taken.new.value taken.new.seat }
-    ensures rests { Rests pass.old pass.new }
-    ensures prepared { WasPrepared tree.now taken.old.value taken.new.value }
-    ensures pass { pass_in pass.new ≡ pass_in pass.old }
-    ensures ready { IsOk result ↔ IsReady taken.new.value.parts }
-    ensures short { IfErr result (λ shortage. IsShortNow tree.now (pass_in pass.new) taken.old.value taken.new.value shortage) }
-{
-    taken.value.preallocate(tree, pass)
-}
-
-#[tactic(auto, using(crate::proofs::Lending::looked_under))]
-fn list_under(
-    taken: &mut Taken<WriterState>,
-    tree: &Tree,
-    pass: &mut Pass,
-    alloc: Global,
-) -> Result<Vec<Range>, NoMemory>
-    requires { IsOpen tree.now pass.old taken.old.value taken.old.seat }
-    ensures open { IsOpen tree.now pass.new taken.new.value taken.new.seat }
-    ensures looked { LookedUnder tree.now taken.old.value taken.new.value pass.old pass.new }
-    ensures items { IfOk result (λ ranges. ranges.items ≡ map_seen tree.now (pass_in pass.new)) }
-{
-    taken.value.list(tree, pass, alloc)
-}
-
 impl<'a> Locked<'a, Taken<WriterState>> {
     /// Makes one call. A call that needs nodes first loads the section words and frees the nodes that no section holds. It is
     /// refused with `NoNodes` if too few are then free. Any other call loads no section word. A call that is refused leaves
     /// every word. Its number is the next: no call of another handle comes between.
+    #[tactic(auto, using(crate::proofs::Lending::next_call, crate::proofs::Lending::none_since))]
     pub fn act(&mut self, call: &Call) -> Result<Done, Worn>
         ensures same_reference { self.new.pass.ghost_name ≡ self.old.pass.ghost_name }
         ensures tree { self.new.tree ≡ self.old.tree }
@@ -179,10 +89,12 @@ impl<'a> Locked<'a, Taken<WriterState>> {
         ensures answered { IfOk result
             (λ d. WasAnsweredBy self.old.tree.now (pass_in self.new.pass.now) self.old.taken.value self.new.taken.value call.now d) }
     {
-        act_under(&mut self.taken, self.tree, self.pass, call)
+        let taken = &mut self.taken;
+        taken.value.act(self.tree, self.pass, call)
     }
 
     /// Answers one query. It is no call of the history.
+    #[tactic(auto, using(crate::proofs::Lending::looked_under))]
     pub fn ask(&mut self, query: &Query) -> Read<Option<Range>>
         ensures same_reference { self.new.pass.ghost_name ≡ self.old.pass.ghost_name }
         ensures tree { self.new.tree ≡ self.old.tree }
@@ -191,7 +103,8 @@ impl<'a> Locked<'a, Taken<WriterState>> {
         ensures read { known.Read (opened self.old.tree.now)
             (pass_in self.old.pass.now) result.lo result.hi result.lo query.now result.value (pass_in self.new.pass.now) }
     {
-        ask_under(&mut self.taken, self.tree, self.pass, query)
+        let taken = &mut self.taken;
+        taken.value.ask(self.tree, self.pass, query)
     }
 
     /// Makes the tree ready for a store, which is then not refused because nodes are short. It frees the held nodes that died
@@ -207,7 +120,8 @@ impl<'a> Locked<'a, Taken<WriterState>> {
         ensures short { IfErr result
             (λ shortage. IsShortNow self.old.tree.now (pass_in self.old.pass.now) self.old.taken.value self.new.taken.value shortage) }
     {
-        preallocate_under(&mut self.taken, self.tree, self.pass)
+        let taken = &mut self.taken;
+        taken.value.preallocate(self.tree, self.pass)
     }
 
     /// Whether a store may be made by `store_prealloc`.
@@ -232,17 +146,24 @@ impl<'a> Locked<'a, Taken<WriterState>> {
         ensures kept { IfOk result (λ d. is_refusal d.reply ≡ true → self.new.taken.value.parts.sheet.tree ≡ self.old.taken.value.parts.sheet.tree) }
         ensures unscanned { self.new.taken.value.pen.sections ≡ [] }
     {
-        store_under(&mut self.taken, self.tree, self.pass, first, last, entry)
+        let taken = &mut self.taken;
+        taken
+            .value
+            .store_prealloc(self.tree, self.pass, first, last, entry)
     }
 
     /// Copies the ranges out, in rising order.
+    #[tactic(auto, using(crate::proofs::Lending::looked_under))]
     pub fn list(&mut self, alloc: Global) -> Result<Vec<Range>, NoMemory>
         ensures same_reference { self.new.pass.ghost_name ≡ self.old.pass.ghost_name }
         ensures tree { self.new.tree ≡ self.old.tree }
         ensures looked { LookedUnder self.old.tree.now self.old.taken.value self.new.taken.value self.old.pass.now self.new.pass.now }
         ensures items { IfOk result (λ ranges. ranges.items ≡ map_seen self.old.tree.now (pass_in self.old.pass.now)) }
     {
-        list_under(&mut self.taken, self.tree, self.pass, alloc)
+        let taken = &mut self.taken;
+        taken
+            .value
+            .inspect(self.tree, self.pass, RangesOf { alloc })
     }
 
     /// Gives the lock back. The handle is as the last call left it.

@@ -2,7 +2,6 @@
 
 ghost use Rattle.std.specs.Prelude.{◌≡◌};
 ghost use Rattle.mt_base.specs.Passes.{Saw};
-ghost use Rattle.mt_base.specs.Width.{kind_width};
 ghost use Rattle.mt_base.specs.declared.kinds.Kind.{Kind};
 ghost use Rattle.mt_engine.specs.Engine.{IsEngineState};
 ghost use Rattle.mt_engine.specs.Rooms.{IsScanned};
@@ -10,7 +9,7 @@ ghost use Rattle.mt_rule.specs.Seats.{records_of};
 ghost use Rattle.mt_rule.specs.Tokens.{pass_in};
 ghost use Rattle.mt_tree.specs.Behind.{behind_lock, IsAtRest};
 ghost use Rattle.mt_tree.specs.Looks.{IsLeastBy, IsOldest, IsStatsOf, TellsRows, WasFound};
-ghost use Rattle.mt_tree.specs.Trees.{opened, place_of, IsPassOf, Rests, steps_made};
+ghost use Rattle.mt_tree.specs.Trees.{opened, place_of, IsPassOf, Rests};
 ghost use Rattle.mt_tree.specs.Works.{IsWorker};
 
 use crate::behind::{Tools, WriterState};
@@ -44,9 +43,7 @@ fn oldest_at_work<W: Writer, K: OfWidth>(
     tree: &Tree,
     pass: &mut Pass,
 ) -> u64
-    requires worker { IsWorker tree.now tools.old pass.old W.table W.turn }
-    requires counted { W.steps ≡ steps_made pass.old }
-    requires wide { K.wide ≡ kind_width W.table.shape.kind }
+    requires worker { IsWorker tree.now tools.old pass.old W.table W.turn W.steps K.wide }
     ensures rest { IsAtRest tools.new }
     ensures table { (behind_lock tools.new).table ≡ place_of tree.now }
     ensures of { IsPassOf tree.now pass.new }

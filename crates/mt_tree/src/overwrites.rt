@@ -3,14 +3,13 @@
 ghost use Rattle.std.specs.Prelude.{◌≡◌, IfErr, IfOk, filter, length, set};
 ghost use Rattle.mt_base.specs.Map.{overlaps};
 ghost use Rattle.mt_base.specs.declared.calls.Call.TheVariants.{Store};
-ghost use Rattle.mt_base.specs.Width.{kind_width};
 ghost use Rattle.mt_rows.specs.Publish.{map_by};
 ghost use Rattle.mt_rows.specs.Sheet.{OnlyReads};
 ghost use Rattle.mt_rule.specs.Tokens.{pass_in};
 ghost use Rattle.mt_rule.specs.Turns.{tried};
 ghost use Rattle.mt_tree.specs.Behind.{behind_lock, IsAtRest};
 ghost use Rattle.mt_tree.specs.Overwrites.{TellsMet, map_met, ranges_met};
-ghost use Rattle.mt_tree.specs.Trees.{map_seen, place_of, IsPassOf, Rests, TriesOnce, steps_made};
+ghost use Rattle.mt_tree.specs.Trees.{map_seen, place_of, IsPassOf, Rests, TriesOnce};
 ghost use Rattle.mt_tree.specs.Tries.{IsBusyOf, WasMade};
 ghost use Rattle.mt_tree.specs.Works.{IsWorker, LookedBehind};
 
@@ -88,9 +87,7 @@ fn tell_at_work<W: Writer, K: OfWidth, P: RangePlace>(
     last: u64,
     met: &mut [P],
 ) -> u64
-    requires worker { IsWorker tree.now tools.old pass.old W.table W.turn }
-    requires counted { W.steps ≡ steps_made pass.old }
-    requires wide { K.wide ≡ kind_width W.table.shape.kind }
+    requires worker { IsWorker tree.now tools.old pass.old W.table W.turn W.steps K.wide }
     ensures rest { IsAtRest tools.new }
     ensures looked { LookedBehind tree.now (behind_lock tools.old) (behind_lock tools.new) pass.old pass.new }
     ensures tells { TellsMet P.shows (ranges_met (map_seen tree.now (pass_in pass.new)) first last) met.old met.new result }

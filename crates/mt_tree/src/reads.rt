@@ -11,7 +11,7 @@ ghost use Rattle.mt_tree.specs.Trees.{opened, IsPassOf, Takes};
 
 use crate::trees::Tree;
 use mt_base::{Range, Read, Steps};
-use mt_read::Moved;
+use mt_read::{Moved, Way};
 use mt_rule::Pass;
 use std::sync::ledger::Ledger;
 
@@ -93,7 +93,7 @@ impl Tree {
         ensures counted { IsCounted pass.old pass.new steps.old steps.new }
         ensures steps { steps.new ≤ steps.old + 360 }
     {
-        mt_read::next(&self.table, pass, index, max, steps)
+        mt_read::near(&self.table, pass, Way::Next, index, max, steps)
     }
 
     /// The last range that ends below an index, and at `min` or above.
@@ -116,7 +116,7 @@ impl Tree {
         ensures counted { IsCounted pass.old pass.new steps.old steps.new }
         ensures steps { steps.new ≤ steps.old + 360 }
     {
-        mt_read::prev(&self.table, pass, index, min, steps)
+        mt_read::near(&self.table, pass, Way::Prev, index, min, steps)
     }
 
     /// The last range that begins at an index or below, and ends at `min` or above. There is none if the index is below `min`.
@@ -139,6 +139,6 @@ impl Tree {
         ensures counted { IsCounted pass.old pass.new steps.old steps.new }
         ensures steps { steps.new ≤ steps.old + 360 }
     {
-        mt_read::rfind(&self.table, pass, index, min, steps)
+        mt_read::near(&self.table, pass, Way::Rfind, index, min, steps)
     }
 }

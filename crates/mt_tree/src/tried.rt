@@ -16,7 +16,8 @@ ghost use Rattle.mt_tree.specs.Shapes.{first_bad};
 ghost use Rattle.mt_tree.specs.Trees.{IsNew, IsPassOf, TriesOnce, map_seen, opened};
 ghost use Rattle.mt_tree.specs.Tries.{IsBusyOf};
 
-use crate::copies::{open_copy, refusal, room};
+use crate::copies::{Copied, CopyInto, FormOf, open_copy, refusal, room};
+use crate::images::ImageOf;
 use crate::receipts::Look;
 use crate::shapes::{DupError, Shape};
 use crate::trees::Tree;
@@ -39,7 +40,7 @@ impl Tree {
     {
         let mut taken = self.try_take(pass)?;
         let took = taken.value.snapshot(self);
-        let form = taken.value.check(self, pass);
+        let form = taken.value.inspect(self, pass, FormOf);
         Ok((form, self.give_looked(taken, took)))
     }
 
@@ -59,7 +60,7 @@ impl Tree {
     {
         let mut taken = self.try_take(pass)?;
         let took = taken.value.snapshot(self);
-        let image = taken.value.image(self, pass, alloc);
+        let image = taken.value.inspect(self, pass, ImageOf { alloc });
         Ok((image, self.give_looked(taken, took)))
     }
 
@@ -67,26 +68,26 @@ impl Tree {
     fn try_copy_rows(
         &self,
         pass: &mut Pass,
-        dst: &mut PlainRows,
-        book: &mut RowBook,
-    ) -> Result<(u64, Look), Busy>
+        dst: PlainRows,
+        own: RowBook,
+    ) -> Result<(Copied, Look), Busy>
         requires pass { IsPassOf self.now pass.old }
-        requires rows { sheet_in dst.old ≡ new_sheet (kind_width (opened self.now).kind) book.old.rows }
-        requires book { book.old ≡ new_book book.old.rows }
+        requires rows { sheet_in dst ≡ new_sheet (kind_width (opened self.now).kind) own.rows }
+        requires book { own ≡ new_book own.rows }
         ensures of { IsPassOf self.now pass.new }
         ensures saw { IfOk result (λ _. Saw (opened self.now) (pass_in pass.old) (pass_in pass.new)) }
         ensures look { IfOk result (λ r. IsLookAt self.now (pass_in pass.new) r.1) }
-        ensures live { IfOk result (λ r. r.0 ≡ live_rows (looked_words r.1)) }
-        ensures copy { IfOk result (λ r. r.0 ≤ book.old.rows
-            → IsReadyToOpen (opened self.now).kind book.old.rows (map_seen self.now (pass_in pass.new)) (sheet_in dst.new) book.new) }
+        ensures live { IfOk result (λ r. r.0.live ≡ live_rows (looked_words r.1)) }
+        ensures copy { IfOk result (λ r. r.0.live ≤ own.rows
+            → IsReadyToOpen (opened self.now).kind own.rows (map_seen self.now (pass_in pass.new)) (sheet_in r.0.rows) r.0.book) }
         ensures busy { IfErr result (IsBusyOf self.now) }
         ensures kept { IfErr result (λ _. pass.new ≡ tried pass.old) }
         ensures tries { TriesOnce pass.old pass.new }
     {
         let mut taken = self.try_take(pass)?;
         let took = taken.value.snapshot(self);
-        let live = taken.value.copy(self, pass, dst, book);
-        Ok((live, self.give_looked(taken, took)))
+        let copied = taken.value.inspect(self, pass, CopyInto { dst, own });
+        Ok((copied, self.give_looked(taken, took)))
     }
 
     /// The copy's nodes and their book, if the lock is free. The shape is in range and of the tree's kind.
@@ -106,10 +107,10 @@ impl Tree {
         ensures busy { IfErr result (IsBusyOf self.now) }
         ensures kept { IfErr result (λ _. pass.new ≡ tried pass.old) }
     {
-        let Ok((mut rows, mut book)) = room(alloc, &shape) else {
+        let Ok((dst, own)) = room(alloc, &shape) else {
             return Ok((Err(DupError::NoMemory), None));
         };
-        let (live, look) = self.try_copy_rows(pass, &mut rows, &mut book)?;
+        let (Copied { live, rows, book }, look) = self.try_copy_rows(pass, dst, own)?;
         Ok((open_copy(alloc, shape, live, rows, book), Some(look)))
     }
 

@@ -1,28 +1,26 @@
 //! Calls at work: the tools are taken from under the lock, an engine works on the table's nodes, and they are put back.
 
-ghost use Rattle.std.specs.Prelude.{◌≡◌, ◌↔◌, ◌+◌, ◌<◌, ◌≤◌, None, true, false, [], length, IsOk, IfOk, IfErr};
+ghost use Rattle.std.specs.Prelude.{◌≡◌, ◌↔◌, ◌+◌, ◌<◌, ◌≤◌, None, true, false, [], length, IsOk, IfErr};
 ghost use Rattle.std.specs.List.{AllByRecursion};
 ghost use Rattle.mt_base.specs.declared.calls.Call.TheVariants.{StorePre};
 ghost use Rattle.mt_base.specs.Passes as known;
-ghost use Rattle.mt_base.specs.Width.{kind_width};
 ghost use Rattle.mt_engine.specs.Engine.{is_refusal, IsApplied};
 ghost use Rattle.mt_rule.specs.Seats.{records_of};
 ghost use Rattle.mt_rule.specs.Tokens.{pass_in, turn_seat, WasShown};
 ghost use Rattle.mt_pen.specs.Sheets.{sheet_told};
 ghost use Rattle.mt_tree.specs.Behind.{behind_lock, IsAtRest, IsReady, IsStoreReply};
-ghost use Rattle.mt_tree.specs.Trees.{opened, limit_of, map_seen, passes_of, place_of, Acts, IsPassOf, IsShortNow};
+ghost use Rattle.mt_tree.specs.Trees.{opened, limit_of, passes_of, place_of, Acts, IsPassOf, IsShortNow};
 ghost use Rattle.mt_tree.specs.Trees.{NamesPass, Rests, WasAnsweredBy, WasPrepared, steps_made};
-ghost use Rattle.mt_tree.specs.Works.{AreBack, AtWork, IsSeatOf, IsWorker, LookedBehind, records_told, shown_pass};
+ghost use Rattle.mt_tree.specs.Works.{AreBack, AtWork, IsSeatOf, IsWorker, records_told, shown_pass};
 ghost use Rattle.mt_base.specs.Limits.{most_calls};
 
 use crate::behind::Tools;
 use crate::trees::Tree;
-use mt_base::{Call, NoMemory, Query, Range, Reply, Shortage};
+use mt_base::{Call, Reply, Shortage};
 use mt_engine::Engine;
 use mt_pen::{PenRows, Writer};
 use mt_rows::Rows;
 use mt_rule::{OfWidth, Pass};
-use std::alloc::Global;
 use std::mem;
 
 /// A work on the nodes of a tree, once for each width.
@@ -43,9 +41,7 @@ pub(crate) fn begin<'a, W: Writer, K: OfWidth>(
     tree: &'a Tree,
     pass: &mut Pass,
 ) -> Engine<PenRows<'a, W, K>>
-    requires worker { IsWorker tree.now tools.old pass.old W.table W.turn }
-    requires counted { W.steps ≡ steps_made pass.old }
-    requires wide { K.wide ≡ kind_width W.table.shape.kind }
+    requires worker { IsWorker tree.now tools.old pass.old W.table W.turn W.steps K.wide }
     ensures away { tools.new ≡ None }
     ensures seat { IsSeatOf tree.now W.turn }
     ensures kind { tree.now.shape.kind ≡ result.kind }
@@ -98,9 +94,7 @@ pub(crate) fn act<W: Writer, K: OfWidth>(
     pass: &mut Pass,
     call: &Call,
 ) -> Reply
-    requires worker { IsWorker tree.now tools.old pass.old W.table W.turn }
-    requires counted { W.steps ≡ steps_made pass.old }
-    requires wide { K.wide ≡ kind_width W.table.shape.kind }
+    requires worker { IsWorker tree.now tools.old pass.old W.table W.turn W.steps K.wide }
     requires room { length (behind_lock tools.old).pen.history < limit_of tree.now }
     ensures rest { IsAtRest tools.new }
     ensures table { (behind_lock tools.new).table ≡ place_of tree.now }
@@ -130,9 +124,7 @@ pub(crate) fn store_prealloc<W: Writer, K: OfWidth>(
     last: u64,
     entry: u64,
 ) -> Reply
-    requires worker { IsWorker tree.now tools.old pass.old W.table W.turn }
-    requires counted { W.steps ≡ steps_made pass.old }
-    requires wide { K.wide ≡ kind_width W.table.shape.kind }
+    requires worker { IsWorker tree.now tools.old pass.old W.table W.turn W.steps K.wide }
     requires room { length (behind_lock tools.old).pen.history < limit_of tree.now }
     requires ready { IsReady (behind_lock tools.old).parts }
     ensures rest { IsAtRest tools.new }
@@ -153,36 +145,13 @@ pub(crate) fn store_prealloc<W: Writer, K: OfWidth>(
     reply
 }
 
-/// Answers one query.
-pub(crate) fn ask<W: Writer, K: OfWidth>(
-    tools: &mut Option<Tools>,
-    tree: &Tree,
-    pass: &mut Pass,
-    query: &Query,
-) -> Option<Range>
-    requires worker { IsWorker tree.now tools.old pass.old W.table W.turn }
-    requires counted { W.steps ≡ steps_made pass.old }
-    requires wide { K.wide ≡ kind_width W.table.shape.kind }
-    ensures rest { IsAtRest tools.new }
-    ensures looked { LookedBehind tree.now (behind_lock tools.old) (behind_lock tools.new) pass.old pass.new }
-    ensures asked { known.Read (opened tree.now) (pass_in pass.old) (length (behind_lock tools.old).pen.history)
-        (length (behind_lock tools.old).pen.history) (length (behind_lock tools.old).pen.history) query.now result (pass_in pass.new) }
-{
-    let mut engine = begin::<W, K>(tools, tree, pass);
-    let range = engine.ask(query);
-    end(tools, tree, engine, pass);
-    range
-}
-
 /// Makes the tree ready for a store.
 pub(crate) fn preallocate<W: Writer, K: OfWidth>(
     tools: &mut Option<Tools>,
     tree: &Tree,
     pass: &mut Pass,
 ) -> Result<(), Shortage>
-    requires worker { IsWorker tree.now tools.old pass.old W.table W.turn }
-    requires counted { W.steps ≡ steps_made pass.old }
-    requires wide { K.wide ≡ kind_width W.table.shape.kind }
+    requires worker { IsWorker tree.now tools.old pass.old W.table W.turn W.steps K.wide }
     ensures rest { IsAtRest tools.new }
     ensures prepared { WasPrepared tree.now (behind_lock tools.old) (behind_lock tools.new) }
     ensures of { IsPassOf tree.now pass.new }
@@ -196,24 +165,4 @@ pub(crate) fn preallocate<W: Writer, K: OfWidth>(
     let made = engine.preallocate();
     end(tools, tree, engine, pass);
     made
-}
-
-/// Copies the ranges out.
-pub(crate) fn list<W: Writer, K: OfWidth>(
-    tools: &mut Option<Tools>,
-    tree: &Tree,
-    pass: &mut Pass,
-    alloc: Global,
-) -> Result<Vec<Range>, NoMemory>
-    requires worker { IsWorker tree.now tools.old pass.old W.table W.turn }
-    requires counted { W.steps ≡ steps_made pass.old }
-    requires wide { K.wide ≡ kind_width W.table.shape.kind }
-    ensures rest { IsAtRest tools.new }
-    ensures looked { LookedBehind tree.now (behind_lock tools.old) (behind_lock tools.new) pass.old pass.new }
-    ensures items { IfOk result (λ ranges. ranges.items ≡ map_seen tree.now (pass_in pass.new)) }
-{
-    let mut engine = begin::<W, K>(tools, tree, pass);
-    let ranges = engine.list(alloc);
-    end(tools, tree, engine, pass);
-    ranges
 }

@@ -8,7 +8,7 @@ pub end-requires-clause-few : goal.end-requires-clause-few
 end-requires-clause-few g c = still_few _ _ _ _ _ c.begin-engine.ensures.work c.tell_met-count.new.engine (ap (λ (s : Sheet). s.told) c.tell_met-count.ensures.rest)
 
 pub returns-clause-looked : goal.returns-clause-looked
-returns-clause-looked g c = looked _ _ _ _ _ _ c.args.pass.now _ c.begin-engine.ensures.work c.end.ensures.back c.tell_met-count.ensures.rest c.tell_met-count.ensures.book c.tell_met-count.ensures.kind (c.end.ensures.counted ∙ c.requires.counted) (c.end.ensures.turn ∙ c.requires.worker.turn_is)
+returns-clause-looked g c = looked _ _ _ _ _ _ c.args.pass.now _ c.begin-engine.ensures.work c.end.ensures.back c.tell_met-count.ensures.rest c.tell_met-count.ensures.book c.tell_met-count.ensures.kind (c.end.ensures.counted ∙ c.requires.worker.counted) (c.end.ensures.turn ∙ c.requires.worker.turn_is)
 
 pub returns-clause-tells : goal.returns-clause-tells
 returns-clause-tells g c =

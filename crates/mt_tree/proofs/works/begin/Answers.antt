@@ -20,7 +20,7 @@ works g c =
     let book : c.of_height.result.book ≡ (behind_lock c.args.tools.now).parts.book = search rules in
     let sheet : c.of_height.result.sheet ≡ sheet_told g.W.Writer.table (behind_lock c.args.tools.now).pen (shown_pass (behind_lock c.args.tools.now).pen (pass_in c.args.pass.now)) = search rules in
     let shown : WasShown (opened c.args.tree.now) (behind_lock c.args.tools.now).pen (pass_in c.args.pass.now) (shown_pass (behind_lock c.args.tools.now).pen (pass_in c.args.pass.now)) = search rules in
-    at_work c.args.tree.now c.args.tools.now c.args.pass.now g.W.Writer.table g.W.Writer.turn c.of_height.result c.requires.worker kind book sheet shown
+    at_work c.args.tree.now c.args.tools.now c.args.pass.now g.W.Writer.table g.W.Writer.turn g.W.Writer.steps g.K.OfWidth.wide c.of_height.result c.requires.worker kind book sheet shown
 
 pub returns-clause-kind : goal.returns-clause-kind
 returns-clause-kind g c = sym c.of_height.ensures.kind

@@ -4,4 +4,4 @@ use Rattle.mt_tree.proofs.trees.Tree.next.Goals as goal
 
 pub returns-clause-sought : goal.returns-clause-sought
 returns-clause-sought g c =
-    let told = c.next.ensures in sought c.args.self.now c.args.pass.now _ (Next c.args.index c.args.max) _ _ _ told.read told.section told.moved told.given_up told.left told.counted told.stepped.turn told.steps
+    let told = c.near.ensures in sought c.args.self.now c.args.pass.now _ (Next c.args.index c.args.max) _ _ _ told.read told.section told.moved told.given_up told.left told.counted told.stepped.turn told.steps

@@ -1,8 +1,0 @@
-use Rattle.mt_tree.proofs.Keeping.{counted_looked}
-use Rattle.mt_tree.proofs.behind.WriterState.list.Goals as goal
-
-pub invariant_of-self : goal.invariant_of-self
-invariant_of-self c = (c.list.ensures.rest, counted_looked _ _ _ _ _ _ c.list.ensures.looked c.self.invariant.1)
-
-pub invariant_of-self-in-Short : goal.invariant_of-self-in-Short
-invariant_of-self-in-Short c = (c.list-in-Short.ensures.rest, counted_looked _ _ _ _ _ _ c.list-in-Short.ensures.looked c.self.invariant.1)
